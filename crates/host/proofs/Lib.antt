@@ -1,0 +1,2 @@
+-- What the proofs of this crate share: one walk for the two functions, which differ in the event's type and in the function that they call.
+pub mod Into
