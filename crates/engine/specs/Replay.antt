@@ -31,7 +31,8 @@ part from size s = take size (drop from s)
 abbrev pub bit : ℕ → ℕ → Bool
 bit weight flags = eqb (flags / weight % 2) 1
 
--- 0 kind (0 tick, any other a frame), 1 flags (1 error, 2 remote, 4 ext, summed), 2 channel, 3 dlc, 4-7 id, 8-15 time in µs, 16-23 data
+-- 0 kind (0 tick, any other a frame), 1 flags (1 error, 2 remote, 4 ext, summed), 2 channel, 3 dlc, 4-7 id, 8-15 time in µs, 16-23 data;
+-- higher flags and bytes 24-31 are not looked at
 unfoldable pub frameAt : List ℕ → Frame
 frameAt s = record {
   channel = getD s 2 0;
@@ -54,7 +55,7 @@ answerByte answers.Idle = 1
 answerByte answers.Stopped = 2
 answerByte answers.Halted = 3
 answerByte answers.Ticked = 4
-answerByte (answers.Refused n) = n % 256
+answerByte (answers.Refused n) = n
 
 -- 1 logging state (0 Off, 1 On, 2 ending, 3 ending completely, 4 Halted)
 abbrev pub loggingByte : Logging → ℕ
@@ -64,6 +65,7 @@ loggingByte (Ending e) = 2
 loggingByte (EndingCompletely e) = 3
 loggingByte Halted = 4
 
+-- 8-15 the time at which an ending ends, or 0
 abbrev pub endTime : Logging → ℕ
 endTime Off = 0
 endTime On = 0
@@ -71,7 +73,7 @@ endTime (Ending e) = e
 endTime (EndingCompletely e) = e
 endTime Halted = 0
 
--- 2-7 zero, 8-15 the end time or 0, 16-31 the four counts
+-- 2-7 zero, 16-31 the four counts
 unfoldable pub answerBytes : Outcome → List ℕ
 answerBytes o =
     answerByte (o .answer) ∷ loggingByte (o .engine .logging) ∷ 0 ∷ 0 ∷ 0 ∷ 0 ∷ 0 ∷ 0 ∷ (bytesOf 8 (endTime (o .engine .logging))

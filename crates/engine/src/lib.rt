@@ -4,6 +4,8 @@
 // are (specs of the crate rules), or 20 where they are none; a refused call gives back state and counts as they were. `replay` does the same for
 // a list of events and looks at the plan once.
 // May not touch: files, XML. It reads plan words only where the loader took them.
+pub mod replay;
+
 ghost use mathlib.Core.Path.{_≡_};
 ghost use mathlib.Core.List.{map};
 ghost use mathlib.Core.Bool.{true, false, not, cond};
@@ -114,16 +116,20 @@ fn some_hit(words: &[u32], lay: Layout, pass: bool, any: bool, f: Frame) -> bool
     false
 }
 
+const PASSED: bool = true;
+
+const STOPPED: bool = false;
+
 // Pass filters first, then stop filters; where none matches, a pass filter on the channel stops the frame.
 fn passed(words: &[u32], lay: Layout, f: Frame) -> bool
     requires { ⌜ Laid (now words) lay × (f .channel < 5) ⌝ }
     ensures { λ r. ⌜ r ≡ passes (planAt (now (words .entry)) .filters) (Event.frame f) ⌝ }
 {
     if some_hit(words, lay, true, false, f) {
-        return true;
+        return PASSED;
     }
     if some_hit(words, lay, false, false, f) {
-        return false;
+        return STOPPED;
     }
     let on = some_hit(words, lay, true, true, f);
     !on

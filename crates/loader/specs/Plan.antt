@@ -2,6 +2,7 @@
 use Prim.Native.Nat.{ℕ, _+_, _^_}
 use mathlib.Core.Path.{_≡_}
 use mathlib.Core.List.{List, [], _∷_, _++_, map}
+use mathlib.Core.Option.{Option, none, some}
 use mathlib.Core.Bool.{Bool, true, false, _&&_}
 use lib.ListN.{length}
 use lib.Dec.{leb, ltb}
@@ -145,7 +146,7 @@ pub data Loads (ws : List ℕ) : Loaded → Type 0 where
   takes : (p : PlanOf ws) → Loads ws (Taken (layoutOf (p .plan)))
   refuses : (PlanOf ws → ⊥) → Loads ws Refused
 
--- the paper's number for an answer: 0 taken, 20 not a plan
-abbrev pub numberOf : Loaded → ℕ
-numberOf (Taken l) = 0
-numberOf Refused = 20
+-- the paper's refusal number and place for each answer
+abbrev pub refusalOf : Loaded → Option (ℕ × ℕ)
+refusalOf (Taken l) = none
+refusalOf Refused = some (20, 0)

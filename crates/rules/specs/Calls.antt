@@ -2,6 +2,7 @@
 use Prim.Native.Nat.{ℕ, _+_}
 use mathlib.Core.List.{List, map}
 use mathlib.Core.Bool.{Bool, false, not, _&&_, _||_, cond}
+use mathlib.Core.Option.{Option, none, some}
 use lib.ListN.{replicate}
 use lib.Dec.{leb, ltb, eqb}
 use Rattle.code.specs.Code.{valueOn}
@@ -46,6 +47,15 @@ counted k answers.Stopped = record { recorded = k .recorded; idle = k .idle; sto
 counted k answers.Halted = record { recorded = k .recorded; idle = k .idle; stopped = k .stopped; halted = k .halted + 1 }
 counted k answers.Ticked = k
 counted k (answers.Refused n) = k
+
+-- the paper's refusal number and place for each answer
+abbrev pub refusalOf : Answer → Option (ℕ × ℕ)
+refusalOf answers.Recorded = none
+refusalOf answers.Idle = none
+refusalOf answers.Stopped = none
+refusalOf answers.Halted = none
+refusalOf answers.Ticked = none
+refusalOf (answers.Refused n) = some (n, 0)
 
 -- a refused event changes nothing
 abbrev pub refused : ℕ → Engine → Counts → Outcome

@@ -1,0 +1,50 @@
+-- `step_loaded` meets its contract: what the loader answered, then the kind of the event, decides.
+use borrow.Author.Needs.{needs}
+use Rattle.engine.proofs.replay.step_loaded.Statement.{statement}
+use Rattle.engine.proofs.replay.step_loaded.Tie as tie
+use Rattle.engine.proofs.Replays.{laid-as, steps-not, steps-tick, steps-frame}
+
+enum-known-loaded : tie.Need-enum-known-loaded
+enum-known-loaded c = search needs
+
+enum-told : tie.Need-enum-told
+enum-told c = search needs
+
+refuse-requires : tie.Need-refuse-requires
+refuse-requires c κs = search needs
+
+returns : tie.Need-returns
+returns c = steps-not (c .before .before .before .before .before .pre .0) _ _ (c .before .before .before .before .before .args .event .now) _ (c .before .enum-told .given .1) (c .refuse .ensures)
+
+read-frame-requires : tie.Need-read-frame-requires
+read-frame-requires c κs = search needs
+
+shared-slice-read-if1 : tie.Need-shared-slice-read-if1
+shared-slice-read-if1 c = search needs
+
+step-tick-requires : tie.Need-step-tick-requires
+step-tick-requires c κs = laid-as (c .before .before .before .before .before .before .before .before .pre .0) (c .before .before .before .before .loaded .given .1)
+
+returns-2 : tie.Need-returns-2
+returns-2 c = steps-tick (c .before .before .before .before .before .before .before .before .before .pre .0) _ _ (c .before .before .before .before .before .before .before .before .before .args .event .now) _ _ (c .before .before .before .before .before .loaded .given .1) _ (c .before .before .before .read-frame .ensures) (c .before .if1 .taken) (c .step-tick .ensures)
+
+step-frame-requires : tie.Need-step-frame-requires
+step-frame-requires c κs = laid-as (c .before .before .before .before .before .before .before .before .pre .0) (c .before .before .before .before .loaded .given .1)
+
+returns-3 : tie.Need-returns-3
+returns-3 c = steps-frame (c .before .before .before .before .before .before .before .before .before .pre .0) _ _ (c .before .before .before .before .before .before .before .before .before .args .event .now) _ _ (c .before .before .before .before .before .loaded .given .1) _ (c .before .before .before .read-frame .ensures) (c .before .if1 .left) (c .step-frame .ensures)
+
+pub step-loaded-spec : {M : Type 1} → statement M
+step-loaded-spec =
+    tie.close
+    (tie.spec
+    enum-known-loaded
+    enum-told
+    refuse-requires
+    returns
+    read-frame-requires
+    shared-slice-read-if1
+    step-tick-requires
+    returns-2
+    step-frame-requires
+    returns-3)
