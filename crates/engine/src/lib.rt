@@ -106,7 +106,7 @@ fn some_hit(words: &[u32], lay: Layout, pass: bool, any: bool, f: Frame) -> bool
         let rest = &words[at..];
         let x = loader::filter_at(rest);
         let on = filter_is_on(x, pass, f.channel);
-        let like = rules::filter_matches(x, f);
+        let like = matching::filter_matches(x, f);
         if on & (any | like) {
             return true;
         }
@@ -142,9 +142,9 @@ fn fire_one(t: Trigger, first: bool, ticks: bool, f: Frame, i: usize, s: Fired) 
     let l = s.last[i];
     let cause = t.cause;
     let timeout = t.timeout;
-    let fires = rules::trigger_fires(cause, first, ticks, f);
-    let on = rules::trigger_lasts(timeout, l, f.time);
-    let now_last = rules::firing_after(fires, l, f.time);
+    let fires = matching::trigger_fires(cause, first, ticks, f);
+    let on = matching::trigger_lasts(timeout, l, f.time);
+    let now_last = matching::firing_after(fires, l, f.time);
     let mut next = s;
     next.last[i] = now_last;
     next.states[i] = fires | on;
@@ -210,7 +210,7 @@ fn act_all(actions: &[u32], end: u64, start: Logging) -> Logging
     let mut i = 0;
     while i < actions.len() {
         let a = loader::action_at(actions[i]);
-        l = rules::do_action(l, a, end);
+        l = log_state::do_action(l, a, end);
         i += 1;
     }
     l
@@ -323,8 +323,8 @@ fn trigger_event(
     }
     let truth = evaluated.truth;
     let acted = act_risen(words, lay, f.time, was, truth, l);
-    let logging = rules::ended_by(acted, f.time);
-    let answer = ticked_or(ticks, rules::recorded_or_idle(logging));
+    let logging = log_state::ended_by(acted, f.time);
+    let answer = ticked_or(ticks, log_state::recorded_or_idle(logging));
     let now_last = fired.last;
     let engine = Engine {
         logging,
@@ -353,8 +353,8 @@ fn process_event(words: &[u32], lay: Layout, en: Engine, ticks: bool, f: Frame) 
     ensures { λ r. ⌜ r ≡ steppedOf en (process (configOf (planAt (now (words .entry)))) en (eventOf ticks f)) ⌝ }
 {
     let before = en.logging;
-    let l = rules::ended_by(before, f.time);
-    if rules::is_halted(l) {
+    let l = log_state::ended_by(before, f.time);
+    if log_state::is_halted(l) {
         return answer_with(en, l, ticks, f, Answer::Halted);
     }
     if is_stopped(words, lay, ticks, f) {
@@ -405,7 +405,7 @@ fn step_frame(words: &[u32], lay: Layout, en: Engine, k: Counts, f: Frame) -> Ou
     requires { ⌜ Laid (now words) lay ⌝ }
     ensures { λ r. ⌜ r ≡ step (configOf (planAt (now (words .entry)))) en k (Event.frame f) ⌝ }
 {
-    let n = rules::refusal_of_frame(words[1], en.last, k, f);
+    let n = admission::refusal_of_frame(words[1], en.last, k, f);
     if n != 0 {
         return refuse(n, en, k);
     }
@@ -425,7 +425,7 @@ fn step_tick(words: &[u32], lay: Layout, en: Engine, k: Counts, u: u64) -> Outco
     requires { ⌜ Laid (now words) lay ⌝ }
     ensures { λ r. ⌜ r ≡ step (configOf (planAt (now (words .entry)))) en k (Event.tick u) ⌝ }
 {
-    if rules::is_late(en.last, u) {
+    if admission::is_late(en.last, u) {
         return refuse(22, en, k);
     }
     let f = Frame {

@@ -151,7 +151,7 @@ pub fn replay(words: &[u32], events: &[u8], counts: Counts, out: &mut [u8]) -> u
 {
     let n = fewer_of(events.len() / 32, out.len() / 32);
     let loaded = loader::load(words);
-    let mut en = rules::fresh_engine();
+    let mut en = admission::fresh_engine();
     let mut k = counts;
     let mut at = 0;
     let mut i = 0;

@@ -1,0 +1,75 @@
+// Which events an engine accepts, and what it begins with.
+//
+// Promises: `fresh_engine` and `no_counts` are the paper's fresh state; the others give the refusals 21 to 24 in their order.
+// May not touch: plan words, the logging state of a running engine.
+ghost use mathlib.Core.Path.{_≡_};
+ghost use Rattle.rules.specs.Calls.{fresh, noCounts, late, outOfRange, full, frameRefusal};
+use loader::DLC_TOP;
+use rules::Counts;
+use rules::Engine;
+use rules::Firing;
+use rules::Frame;
+use rules::Logging;
+
+pub fn fresh_engine() -> Engine
+    ensures { λ r. ⌜ r ≡ fresh ⌝ }
+{
+    let never = Firing { ever: false, at: 0 };
+    Engine {
+        logging: Logging::Off,
+        fired: [never; 32],
+        truth: [false; 16],
+        started: false,
+        last: 0,
+    }
+}
+
+pub fn no_counts() -> Counts
+    ensures { λ r. ⌜ r ≡ noCounts ⌝ }
+{
+    Counts {
+        recorded: 0,
+        idle: 0,
+        stopped: 0,
+        halted: 0,
+    }
+}
+
+// A time before the last accepted one, or too far away.
+pub fn is_late(last: u64, u: u64) -> bool
+    ensures { λ r. ⌜ r ≡ late last u ⌝ }
+{
+    (u < last) | (10000000000000000 < u)
+}
+
+fn is_out_of_range(f: Frame) -> bool
+    ensures { λ r. ⌜ r ≡ outOfRange f ⌝ }
+{
+    let top = loader::id_top(f.ext);
+    !f.error & ((top < f.id) | (DLC_TOP < f.dlc))
+}
+
+fn is_full(k: Counts) -> bool
+    ensures { λ r. ⌜ r ≡ full k ⌝ }
+{
+    4294967295 <= (k.recorded as u64) + (k.idle as u64) + (k.stopped as u64) + (k.halted as u64)
+}
+
+// The paper's number for a refused frame, 21 to 24 in their order, or 0.
+pub fn refusal_of_frame(channels: u32, last: u64, k: Counts, f: Frame) -> u32
+    ensures { λ r. ⌜ r ≡ frameRefusal channels last k f ⌝ }
+{
+    if channels <= f.channel {
+        return 21;
+    }
+    if is_late(last, f.time) {
+        return 22;
+    }
+    if is_out_of_range(f) {
+        return 23;
+    }
+    if is_full(k) {
+        return 24;
+    }
+    0
+}
