@@ -1,7 +1,7 @@
 -- Which case of the rules an event is, from what the engine's functions gave.
 use Prim.Native.Nat.{ℕ, zero, suc, _+_, _-_, _≤_, _<_}
 use mathlib.Core.Path.{_≡_, refl, ap, sym, _∙_, subst}
-use mathlib.Core.List.{List, [], _++_, map}
+use mathlib.Core.List.{List, [], _++_, map, zipWith}
 use mathlib.Core.Bool.{Bool, true, false, not, _&&_, _||_, cond}
 use mathlib.Core.Option.{Option, none, some}
 use native.Mathlib.Omega.{arith}
@@ -24,10 +24,10 @@ use Rattle.rules.specs.declared.Counts.{Counts}
 use Rattle.rules.specs.declared.Answer.{Answer}
 use Rattle.rules.specs.declared.Answer.the-variants as answers
 use Rattle.rules.specs.declared.Outcome.{Outcome}
-use Rattle.rules.specs.Rules.{Config, Event, frame, tick, timeOf, answering, isHalted, endedBy, passes, states, firings, evaluated, actions, recordedOrIdle, acted, triggered, answered, process, Result, gives, faults}
+use Rattle.rules.specs.Rules.{Config, Event, frame, tick, timeOf, answering, isHalted, endedBy, passes, states, firings, evaluated, actions, acted, triggered, answered, process, Result, gives, faults}
 use Rattle.rules.specs.Calls.{statementOf, configOf, late, outOfRange, full, frameRefusal, refusal, counted, refused, closed, step, Answers, by-plan, no-plan}
 use Rattle.rules.specs.Steps.{eventOf}
-use Rattle.engine.specs.Steps.{fireAll, evaluateAll, actRisen, tickedOr, steppedOf}
+use Rattle.engine.specs.Steps.{fireAll, evaluateAll, actRisen, tickedOr, settledAt, steppedOf}
 use Rattle.engine.specs.declared.Fired.{Fired}
 use Rattle.engine.specs.declared.Evaluated.{Evaluated}
 use Rattle.engine.specs.declared.Stepped.{Stepped}
@@ -85,10 +85,9 @@ module _ (p : Plan) (en : Engine) (l : Logging) (b : Bool) (f : Frame) (few-trig
     unfolding triggered
     trigger-faults n = of-fault (evaluated (map statementOf (p .statements)) (states (p .triggers) (not (en .started)) (eventOf b f) (en .fired))) ev-is (not-true (ev .ok) n)
 
-    module _ (acts after : Logging) (r a : Answer) (e1 : acts ≡ actRisen (map statementOf (p .statements)) (f .time) was (ev .truth) 0 l) (e2 : after ≡ endedBy (f .time) acts)
-        (e3 : r ≡ recordedOrIdle after) (e4 : a ≡ tickedOr b r) where
+    module _ (acts : Logging) (e1 : acts ≡ actRisen (map statementOf (p .statements)) (f .time) was (ev .truth) 0 l) where
       acts-is : (now : List Bool) → ev ≡ record { ok = true; truth = now ++ drop (length now) (en .truth) } → length now ≡ length (p .statements)
-          → acts ≡ actions (map statementOf (p .statements)) (f .time) (mathlib.Core.List.zipWith (λ v was. v && not was) now (en .truth)) l
+          → acts ≡ actions (map statementOf (p .statements)) (f .time) (zipWith (λ v was. v && not was) now (en .truth)) l
       acts-is now h n =
           e1
           ∙ ap (λ (x : List Bool). actRisen (map statementOf (p .statements)) (f .time) x (ev .truth) 0 l) was-is
@@ -98,14 +97,14 @@ module _ (p : Plan) (en : Engine) (l : Logging) (b : Bool) (f : Frame) (few-trig
           ∙ acts-only (map statementOf (p .statements)) (f .time) now (drop (length now) (en .truth)) (en .truth) l (n ∙ sym (length-map (p .statements) statementOf))
 
       of-end : (o : Option (List Bool)) → evaluated (map statementOf (p .statements)) (states (p .triggers) (not (en .started)) (eventOf b f) (en .fired)) ≡ o → Evaluates o [] (en .truth) ev → ev .ok ≡ true
-          → record { answer = a; engine = record { logging = after; fired = fired .last; truth = ev .truth; started = true; last = f .time } } ≡ steppedOf en (acted (configOf p) en l (eventOf b f) o)
+          → settledAt fired (ev .truth) acts b (f .time) ≡ steppedOf en (acted (configOf p) en l (eventOf b f) o)
       of-end none q h n = absurd (let z : _≡_ {A = ℕ} 0 1 = cc in omega arith)
       of-end (some now) q h n =
-          rw (time-is b f, answer-is b f, ← acts-is now h (evaluated-length (map statementOf (p .statements)) _ now q ∙ length-map (p .statements) statementOf), ← e2, ← e3, ← e4)
-          (ap (λ (x : Fired). record { answer = a; engine = record { logging = after; fired = x .last; truth = ev .truth; started = true; last = f .time } }) fired-is
-          ∙ ap (λ (x : Evaluated). record { answer = a; engine = record { logging = after; fired = firings (p .triggers) (not (en .started)) (eventOf b f) (en .fired); truth = x .truth; started = true; last = f .time } }) h)
+          rw (time-is b f, answer-is b f, ← acts-is now h (evaluated-length (map statementOf (p .statements)) _ now q ∙ length-map (p .statements) statementOf))
+          (ap (λ (x : Fired). settledAt x (ev .truth) acts b (f .time)) fired-is
+          ∙ ap (λ (x : Evaluated). settledAt (record { last = firings (p .triggers) (not (en .started)) (eventOf b f) (en .fired); states = [] }) (x .truth) acts b (f .time)) h)
 
-      pub trigger-ends : not (ev .ok) ≡ false → record { answer = a; engine = record { logging = after; fired = fired .last; truth = ev .truth; started = true; last = f .time } } ≡ steppedOf en (triggered (configOf p) en l (eventOf b f))
+      pub trigger-ends : not (ev .ok) ≡ false → settledAt fired (ev .truth) acts b (f .time) ≡ steppedOf en (triggered (configOf p) en l (eventOf b f))
       unfolding triggered
       trigger-ends n = of-end (evaluated (map statementOf (p .statements)) (states (p .triggers) (not (en .started)) (eventOf b f) (en .fired))) refl ev-is (not-false (ev .ok) n)
 

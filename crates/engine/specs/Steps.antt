@@ -19,7 +19,7 @@ use Rattle.rules.specs.declared.Counts.{Counts}
 use Rattle.rules.specs.declared.Answer.{Answer}
 use Rattle.rules.specs.declared.Outcome.{Outcome}
 use Rattle.rules.specs.declared.Answer.the-variants as answers
-use Rattle.rules.specs.Rules.{Statement, Event, timeOf, isPass, matches, fires, lasts, actAll, Result, gives, faults}
+use Rattle.rules.specs.Rules.{Statement, Event, timeOf, isPass, matches, fires, lasts, endedBy, recordedOrIdle, actAll, Result, gives, faults}
 use Rattle.rules.specs.Calls.{configOf, refused, step}
 use Rattle.engine.specs.declared.Fired.{Fired}
 use Rattle.engine.specs.declared.Evaluated.{Evaluated}
@@ -68,6 +68,13 @@ actRisen (s ∷ ss) u was now i l =
 -- ---- one event
 abbrev pub tickedOr : Bool → Answer → Answer
 tickedOr ticks a = cond ticks answers.Ticked a
+
+-- step 7, on what the statements left
+abbrev pub settledAt : Fired → List Bool → Logging → Bool → ℕ → Stepped
+settledAt fired truth acted ticks u = record {
+  answer = tickedOr ticks (recordedOrIdle (endedBy u acted));
+  engine = record { logging = endedBy u acted; fired = fired .last; truth = truth; started = true; last = u };
+}
 
 -- a fault is answered by 25, with the engine as it was
 abbrev pub steppedOf : Engine → Result → Stepped

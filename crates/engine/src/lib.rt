@@ -16,7 +16,7 @@ ghost use Rattle.loader.specs.Scan.{planAt, statementSize, statementAt, actionA
 ghost use Rattle.rules.specs.Rules.{Event, frame, tick, passes, actAll, answered, triggered, process};
 ghost use Rattle.rules.specs.Calls.{full, counted, refused, step, configOf, statementOf, Answers};
 ghost use Rattle.rules.specs.Steps.{eventOf};
-ghost use Rattle.engine.specs.Steps.{isOn, someHit, fireOne, fireAll, evaluateAll, actRisen, tickedOr, steppedOf};
+ghost use Rattle.engine.specs.Steps.{isOn, someHit, fireOne, fireAll, evaluateAll, actRisen, tickedOr, settledAt, steppedOf};
 use code::Value;
 use loader::Effect;
 use loader::Filter;
@@ -290,6 +290,23 @@ fn truths_of(en: Engine) -> [bool; 16]
     en.truth
 }
 
+// Step 7, on what the statements left.
+fn settle(fired: Fired, truth: [bool; 16], acted: Logging, ticks: bool, u: u64) -> Stepped
+    ensures { λ r. ⌜ r ≡ settledAt fired truth acted ticks u ⌝ }
+{
+    let logging = log_state::ended_by(acted, u);
+    let answer = ticked_or(ticks, log_state::recorded_or_idle(logging));
+    let last_firings = fired.last;
+    let engine = Engine {
+        logging,
+        fired: last_firings,
+        truth,
+        started: true,
+        last: u,
+    };
+    Stepped { answer, engine }
+}
+
 // Steps 5 to 7.
 fn trigger_event(
     words: &[u32],
@@ -323,17 +340,7 @@ fn trigger_event(
     }
     let truth = evaluated.truth;
     let acted = act_risen(words, lay, f.time, was, truth, l);
-    let logging = log_state::ended_by(acted, f.time);
-    let answer = ticked_or(ticks, log_state::recorded_or_idle(logging));
-    let now_last = fired.last;
-    let engine = Engine {
-        logging,
-        fired: now_last,
-        truth,
-        started: true,
-        last: f.time,
-    };
-    Stepped { answer, engine }
+    settle(fired, truth, acted, ticks, f.time)
 }
 
 fn is_stopped(words: &[u32], lay: Layout, ticks: bool, f: Frame) -> bool

@@ -2,6 +2,7 @@
 use borrow.Author.Needs.{needs}
 use Rattle.engine.proofs.trigger_event.Statement.{statement}
 use Rattle.engine.proofs.trigger_event.Tie as tie
+use mathlib.Core.Path.{_∙_}
 use Rattle.loader.specs.Scan.{planAt}
 use Rattle.engine.proofs.Events.{trigger-faults, trigger-ends, few-triggers, few-statements}
 
@@ -23,17 +24,11 @@ returns c = trigger-faults (planAt (c .before .before .before .before .before .b
 act-risen-requires : tie.Need-act-risen-requires
 act-risen-requires c κs = search needs
 
-ended-by-requires : tie.Need-ended-by-requires
-ended-by-requires c κs = search needs
-
-recorded-or-idle-requires : tie.Need-recorded-or-idle-requires
-recorded-or-idle-requires c κs = search needs
-
-ticked-or-requires : tie.Need-ticked-or-requires
-ticked-or-requires c κs = search needs
+settle-requires : tie.Need-settle-requires
+settle-requires c κs = search needs
 
 returns-2 : tie.Need-returns-2
-returns-2 c = trigger-ends (planAt (c .before .before .before .before .before .before .before .before .before .before .before .before .before .before .before .args .words .now)) (c .before .before .before .before .before .before .before .before .before .before .before .before .before .before .before .args .en) (c .before .before .before .before .before .before .before .before .before .before .before .before .before .before .before .args .l) (c .before .before .before .before .before .before .before .before .before .before .before .before .before .before .before .args .ticks) (c .before .before .before .before .before .before .before .before .before .before .before .before .before .before .before .args .f) (few-triggers (c .before .before .before .before .before .before .before .before .before .before .before .before .before .before .before .pre .0)) (few-statements (c .before .before .before .before .before .before .before .before .before .before .before .before .before .before .before .pre .0)) (c .before .before .before .before .before .before .before .before .before .before .before .before .before .firings-of .result) (c .before .before .before .before .before .before .before .before .before .before .before .before .truths-of .result) (c .before .before .before .before .before .before .before .before .before .before .before .before .before .firings-of .ensures .0) (c .before .before .before .before .before .before .before .before .before .before .before .before .truths-of .ensures .0) (c .before .before .before .before .before .before .before .before .before .before .before .before .before .firings-of .ensures .1) (c .before .before .before .before .before .before .before .before .before .before .before .before .truths-of .ensures .1) (c .before .before .before .before .before .before .before .before .before .before .fire-all .result) (c .before .before .before .before .before .before .before .before .before .before .fire-all .ensures) (c .before .before .before .before .before .before .before .before .evaluate-all .result) (c .before .before .before .before .before .before .before .before .evaluate-all .ensures) (c .before .before .before .before .act-risen .result) (c .before .before .before .ended-by .result) (c .before .before .recorded-or-idle .result) (c .before .ticked-or .result) (c .before .before .before .before .act-risen .ensures) (c .before .before .before .ended-by .ensures) (c .before .before .recorded-or-idle .ensures) (c .before .ticked-or .ensures) (c .before .before .before .before .before .before .if1 .left)
+returns-2 c = c .settle .ensures ∙ trigger-ends (planAt (c .before .before .before .before .before .before .before .before .before .before .before .before .args .words .now)) (c .before .before .before .before .before .before .before .before .before .before .before .before .args .en) (c .before .before .before .before .before .before .before .before .before .before .before .before .args .l) (c .before .before .before .before .before .before .before .before .before .before .before .before .args .ticks) (c .before .before .before .before .before .before .before .before .before .before .before .before .args .f) (few-triggers (c .before .before .before .before .before .before .before .before .before .before .before .before .pre .0)) (few-statements (c .before .before .before .before .before .before .before .before .before .before .before .before .pre .0)) (c .before .before .before .before .before .before .before .before .before .before .firings-of .result) (c .before .before .before .before .before .before .before .before .before .truths-of .result) (c .before .before .before .before .before .before .before .before .before .before .firings-of .ensures .0) (c .before .before .before .before .before .before .before .before .before .truths-of .ensures .0) (c .before .before .before .before .before .before .before .before .before .before .firings-of .ensures .1) (c .before .before .before .before .before .before .before .before .before .truths-of .ensures .1) (c .before .before .before .before .before .before .before .fire-all .result) (c .before .before .before .before .before .before .before .fire-all .ensures) (c .before .before .before .before .before .evaluate-all .result) (c .before .before .before .before .before .evaluate-all .ensures) (c .before .act-risen .result) (c .before .act-risen .ensures) (c .before .before .before .if1 .left)
 
 pub trigger-event-spec : {M : Type 1} → statement M
 trigger-event-spec =
@@ -45,7 +40,5 @@ trigger-event-spec =
     evaluate-all-requires
     returns
     act-risen-requires
-    ended-by-requires
-    recorded-or-idle-requires
-    ticked-or-requires
+    settle-requires
     returns-2)
