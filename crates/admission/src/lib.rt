@@ -4,7 +4,7 @@
 // May not touch: plan words, the logging state of a running engine.
 ghost use mathlib.Core.Path.{_≡_};
 ghost use Rattle.rules.specs.Calls.{fresh, noCounts, late, outOfRange, full, frameRefusal};
-use loader::DLC_TOP;
+use records::DLC_TOP;
 use rules::Counts;
 use rules::Engine;
 use rules::Firing;
@@ -45,7 +45,7 @@ pub fn is_late(last: u64, u: u64) -> bool
 fn is_out_of_range(f: Frame) -> bool
     ensures { λ r. ⌜ r ≡ outOfRange f ⌝ }
 {
-    let top = loader::id_top(f.ext);
+    let top = records::id_top(f.ext);
     !f.error & ((top < f.id) | (DLC_TOP < f.dlc))
 }
 

@@ -10,7 +10,8 @@ use lib.ListN.{length, getD, drop, replicate, length-replicate, length-map, leng
 use lib.Dec.{leb, ltb, eqb}
 use borrow.Author.Tests.{leb-false, ltb-false, ne-eqb, not-true, not-false}
 use Rattle.loader.specs.Plan.{Plan, Loads}
-use Rattle.loader.specs.Scan.{triggerSize, triggerAt, statementSize, statementAt, statementsPart, planAt}
+use Rattle.records.specs.Readers.{triggerSize, triggerAt, statementSize, statementAt}
+use Rattle.loader.specs.Scan.{statementsPart, planAt}
 use Rattle.loader.specs.Laid.{Laid}
 use Rattle.loader.specs.declared.Layout.{Layout}
 use Rattle.loader.specs.declared.Loaded.the-variants.{Taken, Refused}

@@ -10,9 +10,10 @@ use lib.ListN.{length, getD, take, drop, set, drop-of-length-le}
 use lib.Seq.{drop-cons}
 use Rattle.code.specs.declared.Value.the-variants.{Is, Fault}
 use Rattle.code.specs.Code.{valueOn}
-use Rattle.loader.specs.Scan.{triggerSize, triggerAt, filterSize, filterAt, statementSize, statementAt, actionsAt, codeAt, actionAt, recordsOf, allFit, filtersPart, statementsPart, planAt}
+use Rattle.records.specs.Readers.{triggerSize, triggerAt, filterSize, filterAt, statementSize, statementAt, actionsAt, codeAt, actionAt}
+use Rattle.loader.specs.Scan.{recordsOf, allFit, filtersPart, statementsPart, planAt}
 use Rattle.loader.proofs.Laws.{records-turn, records-end, lent, lent-is, length-lent, head-fits}
-use Rattle.loader.specs.declared.Filter.{Filter}
+use Rattle.records.specs.declared.Filter.{Filter}
 use Rattle.rules.specs.declared.Frame.{Frame}
 use Rattle.rules.specs.declared.Logging.{Logging}
 use Rattle.rules.specs.Rules.{Event, matches, act, actAll}

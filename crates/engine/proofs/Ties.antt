@@ -11,11 +11,11 @@ use lib.Seq.{getD-at, set-at, append-snoc, drop-cons}
 use Rattle.code.specs.declared.Value.{Value}
 use Rattle.code.specs.declared.Value.the-variants.{Is, Fault}
 use Rattle.code.proofs.Sound.{value-ext}
-use Rattle.loader.specs.Plan as plans
-use Rattle.loader.specs.declared.Effect.{Effect}
-use Rattle.loader.specs.declared.Effect.the-variants.{Pass, Stop}
-use Rattle.loader.specs.declared.Filter.{Filter}
-use Rattle.loader.specs.declared.Trigger.{Trigger}
+use Rattle.records.specs.Records as plans
+use Rattle.records.specs.declared.Effect.{Effect}
+use Rattle.records.specs.declared.Effect.the-variants.{Pass, Stop}
+use Rattle.records.specs.declared.Filter.{Filter}
+use Rattle.records.specs.declared.Trigger.{Trigger}
 use Rattle.rules.specs.declared.Frame.{Frame}
 use Rattle.rules.specs.declared.Firing.{Firing}
 use Rattle.rules.specs.declared.Logging.{Logging}

@@ -9,8 +9,8 @@ use Rattle.loader.specs.declared.Loaded.{Loaded}
 use Rattle.loader.specs.declared.Loaded.the-variants.{Taken, Refused}
 use Rattle.code.specs.declared.Value.{Value}
 use Rattle.code.specs.declared.Value.the-variants.{Is, Fault}
-use Rattle.loader.specs.declared.Trigger.{Trigger}
-use Rattle.loader.specs.declared.Filter.{Filter}
+use Rattle.records.specs.declared.Trigger.{Trigger}
+use Rattle.records.specs.declared.Filter.{Filter}
 use Rattle.rules.specs.declared.Frame.{Frame}
 use Rattle.rules.specs.declared.Firing.{Firing}
 use Rattle.rules.specs.declared.Engine.{Engine}

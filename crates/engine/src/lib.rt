@@ -12,17 +12,18 @@ ghost use mathlib.Core.Bool.{true, false, not, cond};
 ghost use Prim.Native.Nat.{_+_, _*_, _^_, _<_, _≤_};
 ghost use lib.ListN.{length};
 ghost use Rattle.loader.specs.Laid.{Laid};
-ghost use Rattle.loader.specs.Scan.{planAt, statementSize, statementAt, actionAt};
+ghost use Rattle.records.specs.Readers.{statementSize, statementAt, actionAt};
+ghost use Rattle.loader.specs.Scan.{planAt};
 ghost use Rattle.rules.specs.Rules.{Event, frame, tick, passes, actAll, answered, triggered, process};
 ghost use Rattle.rules.specs.Calls.{full, counted, refused, step, configOf, statementOf, Answers};
 ghost use Rattle.rules.specs.Steps.{eventOf};
 ghost use Rattle.engine.specs.Steps.{isOn, someHit, fireOne, fireAll, evaluateAll, actRisen, tickedOr, settledAt, steppedOf};
 use code::Value;
-use loader::Effect;
-use loader::Filter;
 use loader::Layout;
 use loader::Loaded;
-use loader::Trigger;
+use records::Effect;
+use records::Filter;
+use records::Trigger;
 use rules::Answer;
 use rules::Counts;
 use rules::Engine;
@@ -104,13 +105,13 @@ fn some_hit(words: &[u32], lay: Layout, pass: bool, any: bool, f: Frame) -> bool
     let mut i = 0;
     while i < count {
         let rest = &words[at..];
-        let x = loader::filter_at(rest);
+        let x = records::filter_at(rest);
         let on = filter_is_on(x, pass, f.channel);
         let like = matching::filter_matches(x, f);
         if on & (any | like) {
             return true;
         }
-        at += loader::filter_size(rest);
+        at += records::filter_size(rest);
         i += 1;
     }
     false
@@ -162,9 +163,9 @@ fn fire_all(words: &[u32], lay: Layout, first: bool, ticks: bool, f: Frame, star
     let mut i = 0;
     while i < count {
         let rest = &words[at..];
-        let t = loader::trigger_at(rest);
+        let t = records::trigger_at(rest);
         s = fire_one(t, first, ticks, f, i, s);
-        at += loader::trigger_size(rest);
+        at += records::trigger_size(rest);
         i += 1;
     }
     s
@@ -197,7 +198,7 @@ fn evaluate_all(words: &[u32], lay: Layout, states: [bool; 32], start: Evaluated
             return r;
         };
         r.truth[i] = v;
-        at += loader::statement_size(rest);
+        at += records::statement_size(rest);
         i += 1;
     }
     r
@@ -209,7 +210,7 @@ fn act_all(actions: &[u32], end: u64, start: Logging) -> Logging
     let mut l = start;
     let mut i = 0;
     while i < actions.len() {
-        let a = loader::action_at(actions[i]);
+        let a = records::action_at(actions[i]);
         l = log_state::do_action(l, a, end);
         i += 1;
     }
@@ -248,7 +249,7 @@ fn act_risen(
     while i < count {
         let rest = &words[at..];
         l = act_statement(rest, u, truth[i] & !was[i], l);
-        at += loader::statement_size(rest);
+        at += records::statement_size(rest);
         i += 1;
     }
     l

@@ -9,18 +9,20 @@ use lib.Seq.{drop-drop, take-at, drop-at, take-append-seam, length-take-le}
 use lib.Dec.{leb, eqb}
 use borrow.Author.Tests.{leb-true, eq-eqb, ne-eqb, eqb-true}
 use Rattle.code.specs.Code.{soundCode}
-use Rattle.loader.specs.Plan.{Statement, flag, timeoutWord, causeWords, triggerWords, effectWord, filterWords, actionWord, statementWords, timeoutIn, causeIn, triggerIn, filterIn, statementIn}
-use Rattle.loader.specs.Scan.{timeoutAt, causeAt, triggerAt, effectAt, filterAt, actionAt, actionsAt, codeAt, statementAt, triggerSize, filterSize, statementSize, starts, triggerOk, filterOk, actionOk, actionsOk, statementOk}
-use Rattle.loader.specs.declared.Cause.{Cause}
-use Rattle.loader.specs.declared.Cause.the-variants.{Id, Length, Error, Startup}
-use Rattle.loader.specs.declared.Timeout.{Timeout}
-use Rattle.loader.specs.declared.Timeout.the-variants.{Forever, Ms}
-use Rattle.loader.specs.declared.Trigger.{Trigger}
-use Rattle.loader.specs.declared.Effect.{Effect}
-use Rattle.loader.specs.declared.Effect.the-variants.{Pass, Stop}
-use Rattle.loader.specs.declared.Filter.{Filter}
-use Rattle.loader.specs.declared.Action.{Action}
-use Rattle.loader.specs.declared.Action.the-variants.{StartLog, StopLog, StopLogCompletely}
+use Rattle.records.specs.Records.{Statement, flag, timeoutWord, causeWords, triggerWords, effectWord, filterWords, actionWord, statementWords, timeoutIn, causeIn, triggerIn, filterIn}
+use Rattle.loader.specs.Plan.{statementIn}
+use Rattle.records.specs.Readers.{timeoutAt, causeAt, triggerAt, effectAt, filterAt, actionAt, actionsAt, codeAt, statementAt, triggerSize, filterSize, statementSize}
+use Rattle.loader.specs.Scan.{starts, triggerOk, filterOk, actionOk, actionsOk, statementOk}
+use Rattle.records.specs.declared.Cause.{Cause}
+use Rattle.records.specs.declared.Cause.the-variants.{Id, Length, Error, Startup}
+use Rattle.records.specs.declared.Timeout.{Timeout}
+use Rattle.records.specs.declared.Timeout.the-variants.{Forever, Ms}
+use Rattle.records.specs.declared.Trigger.{Trigger}
+use Rattle.records.specs.declared.Effect.{Effect}
+use Rattle.records.specs.declared.Effect.the-variants.{Pass, Stop}
+use Rattle.records.specs.declared.Filter.{Filter}
+use Rattle.records.specs.declared.Action.{Action}
+use Rattle.records.specs.declared.Action.the-variants.{StartLog, StopLog, StopLogCompletely}
 use Rattle.loader.proofs.Laws.{and-left, and-right}
 use Rattle.loader.proofs.Rows.{Kind}
 

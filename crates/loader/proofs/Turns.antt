@@ -10,10 +10,11 @@ use lib.Seq.{drop-cons, drop-drop}
 use lib.Dec.{leb}
 use borrow.Author.Tests.{le-leb, lt-leb, leb-true, eq-eqb, ne-eqb}
 use Rattle.code.specs.Code.{soundCode}
-use Rattle.loader.specs.Plan.{triggerWords, timeoutIn, causeIn, triggerIn, filterWords, filterIn}
-use Rattle.loader.specs.Scan.{triggerAt, filterAt, statementSize, starts, triggerOk, filterOk, actionOk, actionsOk, statementOk, sizeOf, fits, scanOf}
-use Rattle.loader.specs.declared.Trigger.{Trigger}
-use Rattle.loader.specs.declared.Filter.{Filter}
+use Rattle.records.specs.Records.{triggerWords, timeoutIn, causeIn, triggerIn, filterWords, filterIn}
+use Rattle.records.specs.Readers.{triggerAt, filterAt, statementSize}
+use Rattle.loader.specs.Scan.{starts, triggerOk, filterOk, actionOk, actionsOk, statementOk, sizeOf, fits, scanOf}
+use Rattle.records.specs.declared.Trigger.{Trigger}
+use Rattle.records.specs.declared.Filter.{Filter}
 use Rattle.loader.specs.declared.Section.{Section}
 use Rattle.loader.specs.declared.Section.the-variants.{Statements}
 use Rattle.loader.specs.declared.Scan.the-variants.{At, Bad}

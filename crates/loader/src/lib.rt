@@ -1,66 +1,19 @@
-// The loader: which words are a plan, and how its records are read.
+// The loader: which words are a plan.
 //
 // Promises: `load` takes the words exactly if they are the layout of a plan in range, as specs/Plan.antt says it; it answers every input.
-// Everything else that is public reads one record and says what the record says.
 // May not touch: files, events, the engine's state. It knows nothing of XML.
 ghost use mathlib.Core.Path.{_≡_};
 ghost use Prim.Native.Nat.{_^_, _<_, _≤_};
 ghost use lib.ListN.{length, getD};
-ghost use Rattle.loader.specs.Plan.{Loads, flag, timeoutWord, triggerWords, effectWord, filterWords, timeoutIn, idTop, causeIn, filterIn};
-ghost use Rattle.loader.specs.Scan.{timeoutAt, triggerAt, effectAt, filterAt, actionAt, triggerSize, filterSize, statementSize, starts, triggerOk, filterOk, actionOk, actionsOk, statementOk, sizeOf, okOf, fits, sectionFrom, headerOk};
-
-// The first word of every plan, and the largest length code.
-pub const NEWEST: u32 = 1;
-
-pub const DLC_TOP: u32 = 8;
-
-// What a trigger fires on.
-pub enum Cause {
-    Id {
-        channel: u32,
-        ext: bool,
-        lower: u32,
-        upper: u32,
-    },
-    Length {
-        channel: u32,
-        lower: u32,
-        upper: u32,
-    },
-    Error(u32),
-    Startup,
-}
-
-pub enum Timeout {
-    Forever,
-    Ms(u32),
-}
-
-pub struct Trigger {
-    pub cause: Cause,
-    pub timeout: Timeout,
-}
-
-pub enum Effect {
-    Pass,
-    Stop,
-}
-
-pub struct Filter {
-    pub effect: Effect,
-    pub mask: u32,
-    pub ext: bool,
-    pub lower: u32,
-    pub upper: u32,
-    pub shortest: u32,
-    pub longest: u32,
-}
-
-pub enum Action {
-    StartLog,
-    StopLog,
-    StopLogCompletely,
-}
+ghost use Rattle.records.specs.Records.{flag, timeoutWord, triggerWords, effectWord, filterWords, timeoutIn, idTop, causeIn, filterIn};
+ghost use Rattle.loader.specs.Plan.{Loads};
+ghost use Rattle.records.specs.Readers.{timeoutAt, triggerAt, effectAt, filterAt, actionAt, triggerSize, filterSize, statementSize};
+ghost use Rattle.loader.specs.Scan.{starts, triggerOk, filterOk, actionOk, actionsOk, statementOk, sizeOf, okOf, fits, sectionFrom, headerOk};
+use records::Cause;
+use records::DLC_TOP;
+use records::Filter;
+use records::NEWEST;
+use records::Timeout;
 
 // A kind of record, with the number that its ranges go by: channels, masks, triggers.
 pub enum Section {
@@ -84,186 +37,6 @@ pub struct Layout {
 pub enum Loaded {
     Taken(Layout),
     Refused,
-}
-
-// A word, or 0 behind the last.
-pub fn word(words: &[u32], i: usize) -> u32
-    ensures { λ r. ⌜ r ≡ getD (now (words .entry)) i 0 ⌝ }
-{
-    if i < words.len() { words[i] } else { 0 }
-}
-
-fn timeout_at(w: u32) -> Timeout
-    ensures { λ r. ⌜ r ≡ timeoutAt w ⌝ }
-{
-    if w == 4294967295 {
-        Timeout::Forever
-    } else {
-        Timeout::Ms(w)
-    }
-}
-
-// The trigger whose record the words start with.
-pub fn trigger_at(rec: &[u32]) -> Trigger
-    ensures { λ r. ⌜ r ≡ triggerAt (now (rec .entry)) ⌝ }
-{
-    let kind = word(rec, 0);
-    let channel = word(rec, 1);
-    let timeout = timeout_at(word(rec, 2));
-    let lower = word(rec, 4);
-    let upper = word(rec, 5);
-    match kind {
-        1 => {
-            let ext = word(rec, 3) == 1;
-            let cause = Cause::Id {
-                channel,
-                ext,
-                lower,
-                upper,
-            };
-            Trigger { cause, timeout }
-        }
-        2 => {
-            let cause = Cause::Length {
-                channel,
-                lower,
-                upper,
-            };
-            Trigger { cause, timeout }
-        }
-        3 => Trigger {
-            cause: Cause::Error(channel),
-            timeout,
-        },
-        _ => Trigger {
-            cause: Cause::Startup,
-            timeout,
-        },
-    }
-}
-
-fn effect_at(w: u32) -> Effect
-    ensures { λ r. ⌜ r ≡ effectAt w ⌝ }
-{
-    if w == 1 { Effect::Pass } else { Effect::Stop }
-}
-
-// The filter whose record the words start with.
-pub fn filter_at(rec: &[u32]) -> Filter
-    ensures { λ r. ⌜ r ≡ filterAt (now (rec .entry)) ⌝ }
-{
-    let effect = effect_at(word(rec, 0));
-    let mask = word(rec, 1);
-    let ext = word(rec, 2) == 1;
-    let lower = word(rec, 3);
-    let upper = word(rec, 4);
-    let shortest = word(rec, 5);
-    let longest = word(rec, 6);
-    Filter {
-        effect,
-        mask,
-        ext,
-        lower,
-        upper,
-        shortest,
-        longest,
-    }
-}
-
-// The action that a word of a statement stands for.
-pub fn action_at(w: u32) -> Action
-    ensures { λ r. ⌜ r ≡ actionAt w ⌝ }
-{
-    match w {
-        1 => Action::StartLog,
-        2 => Action::StopLog,
-        _ => Action::StopLogCompletely,
-    }
-}
-
-fn flag_word(b: bool) -> u32
-    ensures { λ r. ⌜ r ≡ flag b ⌝ }
-{
-    if b { 1 } else { 0 }
-}
-
-fn timeout_word(t: Timeout) -> u32
-    ensures { λ r. ⌜ r ≡ timeoutWord t ⌝ }
-{
-    match t {
-        Timeout::Forever => 4294967295,
-        Timeout::Ms(ms) => ms,
-    }
-}
-
-// The words of a trigger.
-pub fn trigger_words(t: Trigger) -> [u32; 6]
-    ensures { λ r. ⌜ r ≡ triggerWords t ⌝ }
-{
-    let timeout = t.timeout;
-    let cause = t.cause;
-    let span = timeout_word(timeout);
-    match cause {
-        Cause::Id {
-            channel,
-            ext,
-            lower,
-            upper,
-        } => [1, channel, span, flag_word(ext), lower, upper],
-        Cause::Length {
-            channel,
-            lower,
-            upper,
-        } => [2, channel, span, 0, lower, upper],
-        Cause::Error(channel) => [3, channel, span, 0, 0, 0],
-        Cause::Startup => [4, 0, span, 0, 0, 0],
-    }
-}
-
-fn effect_word(e: Effect) -> u32
-    ensures { λ r. ⌜ r ≡ effectWord e ⌝ }
-{
-    match e {
-        Effect::Pass => 1,
-        Effect::Stop => 2,
-    }
-}
-
-// The words of a filter.
-pub fn filter_words(x: Filter) -> [u32; 7]
-    ensures { λ r. ⌜ r ≡ filterWords x ⌝ }
-{
-    let effect = x.effect;
-    let kind = effect_word(effect);
-    let ext = flag_word(x.ext);
-    [kind, x.mask, ext, x.lower, x.upper, x.shortest, x.longest]
-}
-
-// The number of words of the record that the words start with, by its kind.
-pub fn trigger_size(rec: &[u32]) -> usize
-    ensures { λ r. ⌜ r ≡ triggerSize (now (rec .entry)) ⌝ }
-{
-    6
-}
-
-pub fn filter_size(rec: &[u32]) -> usize
-    ensures { λ r. ⌜ r ≡ filterSize (now (rec .entry)) ⌝ }
-{
-    7
-}
-
-fn wide(x: u32) -> usize
-    ensures { λ r. ⌜ (r ≡ x) × (r < 4294967296) ⌝ }
-{
-    x as usize
-}
-
-pub fn statement_size(rec: &[u32]) -> usize
-    ensures { λ r. ⌜ (r ≡ statementSize (now (rec .entry))) × (r < 8589934600) ⌝ }
-{
-    let actions = wide(word(rec, 1));
-    let words = wide(word(rec, 2));
-    3 + actions + words
 }
 
 // Whether the words start with those of the second slice.
@@ -292,13 +65,6 @@ fn timeout_in(t: Timeout) -> bool
     }
 }
 
-// The largest identifier: 11 bits, or 29 where it is extended.
-pub fn id_top(ext: bool) -> u32
-    ensures { λ r. ⌜ r ≡ idTop ext ⌝ }
-{
-    if ext { 536870911 } else { 2047 }
-}
-
 fn cause_in(cause: Cause, n: u32) -> bool
     ensures { λ r. ⌜ r ≡ causeIn n cause ⌝ }
 {
@@ -309,7 +75,7 @@ fn cause_in(cause: Cause, n: u32) -> bool
             lower,
             upper,
         } => {
-            let top = id_top(ext);
+            let top = records::id_top(ext);
             (channel < n) & (lower <= upper) & (upper <= top)
         }
         Cause::Length {
@@ -325,8 +91,8 @@ fn cause_in(cause: Cause, n: u32) -> bool
 fn trigger_ok(rec: &[u32], n: u32) -> bool
     ensures { λ r. ⌜ r ≡ triggerOk n (now (rec .entry)) ⌝ }
 {
-    let t = trigger_at(rec);
-    let spelt = trigger_words(t);
+    let t = records::trigger_at(rec);
+    let spelt = records::trigger_words(t);
     let same = starts_with(rec, &spelt);
     let timeout = t.timeout;
     let cause = t.cause;
@@ -339,7 +105,7 @@ fn trigger_ok(rec: &[u32], n: u32) -> bool
 fn filter_in(x: Filter, masks: u32) -> bool
     ensures { λ r. ⌜ r ≡ filterIn masks x ⌝ }
 {
-    let top = id_top(x.ext);
+    let top = records::id_top(x.ext);
     (1 <= x.mask)
         & (x.mask < masks)
         & (x.lower <= x.upper)
@@ -351,11 +117,17 @@ fn filter_in(x: Filter, masks: u32) -> bool
 fn filter_ok(rec: &[u32], masks: u32) -> bool
     ensures { λ r. ⌜ r ≡ filterOk masks (now (rec .entry)) ⌝ }
 {
-    let x = filter_at(rec);
-    let spelt = filter_words(x);
+    let x = records::filter_at(rec);
+    let spelt = records::filter_words(x);
     let same = starts_with(rec, &spelt);
     let fine = filter_in(x, masks);
     same & fine
+}
+
+fn wide(x: u32) -> usize
+    ensures { λ r. ⌜ (r ≡ x) × (r < 4294967296) ⌝ }
+{
+    x as usize
 }
 
 fn action_ok(a: u32) -> bool
@@ -394,9 +166,9 @@ fn record_size(section: Section, rec: &[u32]) -> usize
     ensures { λ r. ⌜ (r ≡ sizeOf section (now (rec .entry))) × (r < 8589934600) ⌝ }
 {
     match section {
-        Section::Triggers(_) => trigger_size(rec),
-        Section::Filters(_) => filter_size(rec),
-        Section::Statements(_) => statement_size(rec),
+        Section::Triggers(_) => records::trigger_size(rec),
+        Section::Filters(_) => records::filter_size(rec),
+        Section::Statements(_) => records::statement_size(rec),
     }
 }
 

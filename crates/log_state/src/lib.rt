@@ -4,7 +4,7 @@
 // May not touch: plan words, frames, counts.
 ghost use mathlib.Core.Path.{_≡_};
 ghost use Rattle.rules.specs.Rules.{isHalted, endedBy, act, recordedOrIdle};
-use loader::Action;
+use records::Action;
 use rules::Answer;
 use rules::Logging;
 

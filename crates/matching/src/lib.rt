@@ -8,9 +8,9 @@ ghost use Prim.Native.Nat.{_+_, _*_};
 ghost use lib.Dec.{ltb};
 ghost use Rattle.rules.specs.Rules.{matches, fires, lasts};
 ghost use Rattle.rules.specs.Steps.{eventOf};
-use loader::Cause;
-use loader::Filter;
-use loader::Timeout;
+use records::Cause;
+use records::Filter;
+use records::Timeout;
 use rules::Firing;
 use rules::Frame;
 

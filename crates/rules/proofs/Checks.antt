@@ -6,7 +6,8 @@ use mathlib.Core.Bool.{Bool, true, false}
 use lib.ListN.{replicate}
 use Rattle.code.specs.Code.{opOf, stepWord, runWords, valueOn, riseOp, rise, height, soundCode}
 use Rattle.code.specs.Code as code
-use Rattle.loader.specs.Plan.{Plan, filterIn, statementIn, all, inRange}
+use Rattle.records.specs.Records.{filterIn}
+use Rattle.loader.specs.Plan.{Plan, statementIn, all, inRange}
 use Rattle.rules.specs.Types.{Cause, Id, Ms, Trigger, Pass, Stop, Filter, StartLog, StopLog, StopLogCompletely, EndingCompletely, Answer}
 use Rattle.rules.specs.declared.Answer.the-variants as answers
 use Rattle.rules.specs.Rules.{Event, frame, tick, matches, filtersOn, firstMatch, passes, fires, states, firings, evaluated, actAll, actions, triggered, process}

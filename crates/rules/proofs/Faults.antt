@@ -9,7 +9,7 @@ use lib.ListN.{length}
 use lib.Dec.{leb, eqb}
 use Rattle.code.specs.Code.{soundCode}
 use Rattle.code.proofs.Sound.{value-of-sound}
-use Rattle.loader.specs.Plan as plans
+use Rattle.records.specs.Records as plans
 use Rattle.loader.specs.Plan.{Plan, statementIn, all, inRange}
 use Rattle.rules.specs.Types.{Logging, Engine, Counts, Answer, Outcome}
 use Rattle.rules.specs.declared.Answer.the-variants as answers

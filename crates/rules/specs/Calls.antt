@@ -6,8 +6,9 @@ use mathlib.Core.Option.{Option, none, some}
 use lib.ListN.{replicate}
 use lib.Dec.{leb, ltb, eqb}
 use Rattle.code.specs.Code.{valueOn}
-use Rattle.loader.specs.Plan as plans
-use Rattle.loader.specs.Plan.{Plan, PlanOf, idTop, dlcTop}
+use Rattle.records.specs.Records as plans
+use Rattle.records.specs.Records.{idTop, dlcTop}
+use Rattle.loader.specs.Plan.{Plan, PlanOf}
 use Rattle.rules.specs.Types.{Frame, Off, Engine, Counts, Answer, Outcome}
 use Rattle.rules.specs.declared.Answer.the-variants as answers
 use Rattle.rules.specs.Rules.{Statement, Config, Event, frame, tick, Result, gives, faults, process}

@@ -6,7 +6,7 @@ use mathlib.Core.Path.{_≡_, refl, _∙_}
 use Prim.Native.Nat.{_-_, _≤_}
 use mathlib.Core.List.{map}
 use lib.ListN.{length, drop}
-use Rattle.loader.specs.Scan.{actionAt}
+use Rattle.records.specs.Readers.{actionAt}
 use Rattle.rules.specs.Rules.{actAll}
 use Rattle.engine.proofs.Loops.{act-turn, act-end}
 use borrow.Author.Needs.{needs}

@@ -6,7 +6,8 @@ use Prim.Native.Nat.{_≤_, _-_}
 use mathlib.Core.Path.{_≡_, _∙_, ap}
 use mathlib.Core.Bool.{true}
 use lib.ListN.{length, drop, getD}
-use Rattle.loader.specs.Scan.{triggerSize, triggerAt, triggerOk, recordsOf, allFit, planAt}
+use Rattle.records.specs.Readers.{triggerSize, triggerAt}
+use Rattle.loader.specs.Scan.{triggerOk, recordsOf, allFit, planAt}
 use Rattle.loader.proofs.Laws.{rest-ok}
 use Rattle.rules.specs.Steps.{eventOf}
 use Rattle.engine.specs.Steps.{fireOne, fireAll}

@@ -6,7 +6,8 @@ use Prim.Native.Nat.{_≤_, _-_, _^_}
 use mathlib.Core.Path.{_≡_, _∙_, ap}
 use mathlib.Core.Bool.{true}
 use lib.ListN.{length, drop, getD}
-use Rattle.loader.specs.Scan.{filterSize, filterAt, filterOk, recordsOf, allFit, planAt}
+use Rattle.records.specs.Readers.{filterSize, filterAt}
+use Rattle.loader.specs.Scan.{filterOk, recordsOf, allFit, planAt}
 use Rattle.loader.proofs.Laws.{rest-ok, lent}
 use Rattle.engine.specs.Steps.{someHit}
 use Rattle.engine.proofs.Loops.{none-passed, head-whole, filters-start, hit-is, hit-here, hit-later, hit-end}

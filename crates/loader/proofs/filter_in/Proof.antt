@@ -2,7 +2,7 @@
 use borrow.Author.Needs.{needs}
 use Rattle.loader.proofs.filter_in.Statement.{statement}
 use Rattle.loader.proofs.filter_in.Tie as tie
-use Rattle.loader.specs.Plan.{filterIn}
+use Rattle.records.specs.Records.{filterIn}
 
 id-top-requires : tie.Need-id-top-requires
 id-top-requires c κs = search needs

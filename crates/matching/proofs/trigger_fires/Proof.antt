@@ -4,9 +4,9 @@ use Rattle.matching.proofs.trigger_fires.Statement.{statement}
 use Rattle.matching.proofs.trigger_fires.Tie as tie
 use mathlib.Core.Path.{_≡_, refl, sym}
 use mathlib.Core.Bool.{Bool, true, false, not, _&&_}
-use Rattle.loader.specs.declared.Cause.{Cause}
+use Rattle.records.specs.declared.Cause.{Cause}
 use Rattle.rules.specs.declared.Frame.{Frame}
-use Rattle.loader.specs.declared.Cause.the-variants.{Id, Length, Error}
+use Rattle.records.specs.declared.Cause.the-variants.{Id, Length, Error}
 use Rattle.rules.specs.Rules.{frame, tick, fires}
 use Rattle.rules.specs.Steps.{eventOf}
 
