@@ -1,0 +1,52 @@
+-- The checks by hand of paper 01 on expressions: one table under one theorem, from quoted texts.
+use Prim.Native.Nat.{ℕ}
+use Prim.Native.String.{String}
+use mathlib.Core.Path.{_≡_, refl}
+use mathlib.Core.Option.{Option, none, some}
+use mathlib.Core.List.{List, [], _∷_}
+use lib.ListN.{take}
+use Rattle.ascii.specs.Texts.{bytes, same}
+use Rattle.ascii.specs.Kinds.{isBlank, isStart, isDigit, isName}
+use Rattle.code.specs.Code.{wordOf}
+use Rattle.lexer.specs.Lex.{find, numberOf}
+use Rattle.lexer.specs.Steps.{lex, numbers}
+use Rattle.expression.specs.Tree.{code}
+use Rattle.expression.specs.Outcome.{token, refusal}
+use Rattle.expression.specs.Steps.{readChain, parseChain, named, compiledFrom, compiled}
+
+-- a text, its refusal if it has one, and its words
+pub record Check : Type 0 where
+  pub text : String
+  pub refused : Option ℕ
+  pub words : List ℕ
+
+-- "with a, b, c as 0, 1, 2"
+unfoldable pub abc : List (List ℕ)
+abc = bytes "a" ∷ bytes "b" ∷ bytes "c" ∷ []
+
+unfoldable pub table : List Check
+table =
+    record { text = "a OR b AND NOT c"; refused = none; words = 0 ∷ 1 ∷ 2 ∷ 34 ∷ 32 ∷ 33 ∷ [] } ∷
+    record { text = "(a OR b) AND c"; refused = none; words = 0 ∷ 1 ∷ 33 ∷ 2 ∷ 32 ∷ [] } ∷
+    record { text = "NOT NOT a"; refused = none; words = 0 ∷ 34 ∷ 34 ∷ [] } ∷
+    record { text = ""; refused = some 11; words = [] } ∷
+    record { text = "a AND"; refused = some 11; words = [] } ∷
+    record { text = "a b"; refused = some 11; words = [] } ∷
+    record { text = "d"; refused = some 12; words = [] } ∷
+    []
+
+unfoldable pub Holds : List Check → Type 0
+Holds [] = Unit {0}
+Holds (c ∷ cs) =
+    (refusal (compiled abc (bytes (c .text)) .verdict) ≡ c .refused)
+    × (take (compiled abc (bytes (c .text)) .count) (compiled abc (bytes (c .text)) .words) ≡ c .words)
+    × Holds cs
+
+pub checks : Holds table
+unfolding Holds table abc bytes same isBlank isStart isDigit isName find numberOf lex numbers token compiled compiledFrom parseChain readChain named code wordOf
+checks = (refl, refl, (refl, refl, (refl, refl, (refl, refl, (refl, refl, (refl, refl, (refl, refl, tt)))))))
+
+-- "equal operators group from the left": the first OR stands before the third operand
+pub from-the-left : take (compiled abc (bytes "a OR b OR c") .count) (compiled abc (bytes "a OR b OR c") .words) ≡ 0 ∷ 1 ∷ 33 ∷ 2 ∷ 33 ∷ []
+unfolding abc bytes same isBlank isStart isDigit isName find numberOf lex numbers token compiled compiledFrom parseChain readChain named code wordOf
+from-the-left = refl
