@@ -1,42 +1,21 @@
 -- Leaves of the grammar: from a derivation to the offset that a reader comes to.
 use Prim.Native.Nat.{ℕ, _+_, _-_, _≤_}
 use native.Mathlib.Omega.{arith}
-use mathlib.Core.Path.{_≡_, refl, sym, ap, _∙_, subst}
+use mathlib.Core.Path.{_≡_, refl, sym, ap, _∙_}
 use mathlib.Core.List.{List, _∷_, _++_}
 use mathlib.Core.Bool.{Bool, true, false, true≢false}
-use borrow.Author.Tests.{eqb-true, eqb-false}
-use lib.Dec.{eqb}
+use borrow.Author.Tests.{eqb-false}
 use lib.ListN.{length, take, drop, length-drop, length-append}
 use lib.Seq.{slice, drop-drop, drop-append-seam, take-append-seam}
 use Rattle.ascii.specs.Texts.{among}
-use Rattle.ascii.specs.Kinds.{isBlank, isStart, isDigit, isName, spanAt}
-use Rattle.ascii.proofs.Cases.{by-cases}
+use Rattle.ascii.specs.Kinds.{isBlank, isStart, isName, spanAt}
+use Rattle.xml.proofs.Bytes.{blank-not-name, start-is-name, start-not-blank}
 use Rattle.xml.specs.Shape.{Attribute, Run, Name, Attributes, Spelled, Remark}
 use Rattle.walk.specs.Steps.{past, ahead, closing, remarkEnd}
 use Rattle.walk.proofs.Places.{here, ahead-in}
 use Rattle.walk.proofs.Answers.{closing-first, closing-second, closing-third}
 use Rattle.walk.proofs.Bounds.{end-here, end-more}
 use Rattle.walk.proofs.Slices.{slice-take}
-
--- kinds of bytes that are apart
-blank-cases : (P : ℕ → Type 0) (b : ℕ) → isBlank b ≡ true → P 32 → P 9 → P 13 → P 10 → P b
-unfolding isBlank
-blank-cases P b t p q r s =
-    by-cases (eqb b 32) (λ u. subst P (sym (eqb-true b 32 u)) p)
-    (λ u. by-cases (eqb b 9) (λ v. subst P (sym (eqb-true b 9 v)) q)
-    (λ v. by-cases (eqb b 13) (λ w. subst P (sym (eqb-true b 13 w)) r)
-    (λ w. subst P (sym (eqb-true b 10 (rw (u, v, w) at t))) s)))
-
-pub blank-no-name : (b : ℕ) → isBlank b ≡ true → isName b ≡ false
-unfolding isName isStart isDigit
-blank-no-name b t = blank-cases (λ c. isName c ≡ false) b t refl refl refl refl
-
-pub start-name : (b : ℕ) → isStart b ≡ true → isName b ≡ true
-unfolding isName
-start-name b t = rw t
-
-pub start-no-blank : (b : ℕ) → isStart b ≡ true → isBlank b ≡ false
-start-no-blank b t = by-cases (isBlank b) (λ u. absurd (true≢false (sym (start-name b t) ∙ blank-no-name b u))) (λ u. u)
 
 -- a byte of a kind is none that is not of the kind
 pub apart : (p : ℕ → Bool) (b c : ℕ) → p b ≡ true → p c ≡ false → b ≡ c → ⊥
@@ -98,7 +77,7 @@ on-two f i e =
 
 -- names
 pub name-run : {n s r : List ℕ} → Name n s r → Run isName n s r
-name-run (Name.name {b} t x) = Run.more (start-name b t) x
+name-run (Name.name {b} t x) = Run.more (start-is-name b t) x
 
 -- a text that starts as a name does
 pub record Letter (s : List ℕ) : Type 0 where
@@ -111,7 +90,7 @@ pub letter : {n s r : List ℕ} → Name n s r → Letter s
 letter (Name.name {b} {s = s} t x) = record { byte = b; rest = s; is = refl; start = t }
 
 pub letter-stops : {s : List ℕ} → Letter s → Stops isBlank s
-letter-stops x = record { first = x .byte; rest = x .rest; is = x .is; stop = start-no-blank (x .byte) (x .start) }
+letter-stops x = record { first = x .byte; rest = x .rest; is = x .is; stop = start-not-blank (x .byte) (x .start) }
 
 -- the same bytes with another text behind them
 pub run-behind : {p : ℕ → Bool} {w s r : List ℕ} → Run p w s r → (t : List ℕ) → Run p w (w ++ t) t
@@ -121,10 +100,10 @@ run-behind (Run.more h x) t = Run.more h (run-behind x t)
 -- blanks, then a byte of another kind, stop a name
 pub blanks-stop : {w s u : List ℕ} → Run isBlank w s u → Stops isName u → Stops isName s
 blanks-stop Run.none y = y
-blanks-stop (Run.more {b} {s = s} t x) y = stops isName b s (blank-no-name b t)
+blanks-stop (Run.more {b} {s = s} t x) y = stops isName b s (blank-not-name b t)
 
 spelled-stop : {a : Attribute} {s r : List ℕ} → Spelled a s r → Stops isName s
-spelled-stop (Spelled.attribute {b} {s₁ = s} t x y z v q) = stops isName b s (blank-no-name b t)
+spelled-stop (Spelled.attribute {b} {s₁ = s} t x y z v q) = stops isName b s (blank-not-name b t)
 
 pub attributes-stop : {l : List Attribute} {s u : List ℕ} → Attributes l s u → Stops isName u → Stops isName s
 attributes-stop Attributes.none y = y
