@@ -1,15 +1,18 @@
 // Which events an engine accepts, and what it begins with.
 //
-// Promises: `fresh_engine` and `no_counts` are the paper's fresh state; the others give the refusals 21 to 24 in their order.
+// Promises: `fresh_engine` and `no_counts` are the paper's fresh state; `refuse` is a refused call, the others give the
+// refusals 21 to 24 in their order.
 // May not touch: plan words, the logging state of a running engine.
 ghost use mathlib.Core.Path.{_≡_};
-ghost use Rattle.rules.specs.Calls.{fresh, noCounts, late, outOfRange, full, frameRefusal};
+ghost use Rattle.rules.specs.Calls.{fresh, noCounts, late, outOfRange, full, frameRefusal, refused};
 use records::DLC_TOP;
+use rules::Answer;
 use rules::Counts;
 use rules::Engine;
 use rules::Firing;
 use rules::Frame;
 use rules::Logging;
+use rules::Outcome;
 
 pub fn fresh_engine() -> Engine
     ensures { λ r. ⌜ r ≡ fresh ⌝ }
@@ -72,4 +75,15 @@ pub fn refusal_of_frame(channels: u32, last: u64, k: Counts, f: Frame) -> u32
         return 24;
     }
     0
+}
+
+// A refused event changes nothing.
+pub fn refuse(n: u32, en: Engine, k: Counts) -> Outcome
+    ensures { λ r. ⌜ r ≡ refused n en k ⌝ }
+{
+    Outcome {
+        answer: Answer::Refused(n),
+        engine: en,
+        counts: k,
+    }
 }

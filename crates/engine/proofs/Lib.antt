@@ -1,6 +1,4 @@
--- The engine: ties of its loops to the rules, turns of the loops, cases of an event, the replay.
-pub mod Ties
-pub mod Events
-pub mod Loops
+-- The engine: plans read off taken words, the replay.
+pub mod Plans
 pub mod Replays
 pub mod ReplayChecks

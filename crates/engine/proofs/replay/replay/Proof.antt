@@ -7,7 +7,7 @@ use mir.Val.{Fits}
 use native.Mathlib.Omega.{arith}
 use Rattle.engine.specs.Steps.{stepLoaded}
 use Rattle.engine.specs.Replay.{replayed}
-use Rattle.engine.proofs.Replays.{Turns, turns-none, turns-event, turns-room, turns-more, turns-small, turns-done, small-answer, enough-events, enough-room, replays}
+use Rattle.engine.proofs.Replays.{Turns, turns-none, turns-event, turns-more, turns-done, enough-events, enough-room, replays}
 use borrow.Author.Needs.{needs}
 
 abbrev Inv-loop : tie.InvT-loop
@@ -38,7 +38,7 @@ part-step-loaded-end : tie.Need-part-step-loaded-end Inv-loop μ-loop
 part-step-loaded-end c = search needs
 
 step-loaded-requires : tie.Need-step-loaded-requires Inv-loop μ-loop
-step-loaded-requires c κs = (c .before .before .before .before .load .ensures, turns-event _ _ _ _ _ _ _ _ _ _ (c .before .before .loop .inv) (c .before .loop-test .taken))
+step-loaded-requires c κs = turns-event _ _ _ _ _ _ _ _ _ _ (c .before .before .loop .inv) (c .before .loop-test .taken)
 
 sub-put-answer : tie.Need-sub-put-answer Inv-loop μ-loop
 sub-put-answer c = omega (arith, c .before .before .before .loop .inv .place, c .before .before .before .loop .inv .room, c .before .before .before .loop .inv .filled .long)
@@ -50,7 +50,7 @@ part-put-answer-end : tie.Need-part-put-answer-end Inv-loop μ-loop
 part-put-answer-end c = search needs
 
 put-answer-requires : tie.Need-put-answer-requires Inv-loop μ-loop
-put-answer-requires c κs = (turns-room _ _ _ _ _ _ _ _ _ _ (c .before .before .before .before .loop .inv) (c .before .before .before .loop-test .taken), turns-small _ _ _ _ _ _ _ _ _ _ (c .before .before .before .before .loop .inv) _ (small-answer (c .before .before .before .before .before .before .before .before .before .before .before .args .words .now) (c .before .before .before .before .before .before .load .result)) (c .before .step-loaded .ensures))
+put-answer-requires c κs = search needs
 
 add-at : tie.Need-add-at Inv-loop μ-loop
 add-at c = let h : Fits w64 (c .before .before .before .before .before .before .before .before .before .loop .at + 32) = omega (arith, c .before .before .before .before .before .before .before .before .before .before .before .before .before .before .before .before .good .1 .0 .0, c .before .before .before .before .before .before .before .before .before .loop .inv .place, c .before .before .before .before .before .before .before .before .before .loop .inv .enough, c .before .before .before .before .before .before .before .before .loop-test .taken) in h

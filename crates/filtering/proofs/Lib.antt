@@ -1,0 +1,3 @@
+-- The filters: ties to the rules, turns of the loop.
+pub mod Ties
+pub mod Loops

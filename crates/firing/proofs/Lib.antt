@@ -1,0 +1,3 @@
+-- The triggers: ties to the rules, turns of the loop.
+pub mod Ties
+pub mod Loops

@@ -1,0 +1,20 @@
+-- `settle`: step 7, from what each function gave.
+use borrow.Author.Needs.{needs}
+use Rattle.stepping.proofs.settle.Statement.{statement}
+use Rattle.stepping.proofs.settle.Tie as tie
+
+ended-by-requires : tie.Need-ended-by-requires
+ended-by-requires c κs = search needs
+
+recorded-or-idle-requires : tie.Need-recorded-or-idle-requires
+recorded-or-idle-requires c κs = search needs
+
+ticked-or-requires : tie.Need-ticked-or-requires
+ticked-or-requires c κs = search needs
+
+returns : tie.Need-returns
+returns c = rw (c .before .ticked-or .ensures, c .before .before .recorded-or-idle .ensures, c .before .before .before .ended-by .ensures)
+
+pub settle-spec : {M : Type 1} → statement M
+settle-spec =
+    tie.close (tie.spec ended-by-requires recorded-or-idle-requires ticked-or-requires returns)

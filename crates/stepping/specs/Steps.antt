@@ -1,0 +1,50 @@
+-- One event as the code goes: the plan that is read off words, and an answer beside the state.
+use Prim.Native.Nat.{ℕ}
+use mathlib.Core.List.{List}
+use mathlib.Core.Bool.{Bool, true, cond}
+use lib.ListN.{getD, drop}
+use lib.Dec.{eqb}
+use Rattle.records.specs.Records as plans
+use Rattle.records.specs.Readers.{triggerSize, triggerAt, filterSize, filterAt, statementSize, statementAt}
+use Rattle.records.specs.declared.Trigger.{Trigger}
+use Rattle.records.specs.declared.Filter.{Filter}
+use Rattle.loader.specs.Plan.{Plan}
+use Rattle.loader.specs.Scan.{recordsOf}
+use Rattle.loader.specs.declared.Layout.{Layout}
+use Rattle.rows.specs.Rows.{rowsOf}
+use Rattle.rules.specs.declared.Engine.{Engine}
+use Rattle.rules.specs.declared.Logging.{Logging}
+use Rattle.rules.specs.declared.Answer.{Answer}
+use Rattle.rules.specs.declared.Answer.the-variants as answers
+use Rattle.rules.specs.Rules.{endedBy, recordedOrIdle, Result, gives, faults}
+use Rattle.firing.specs.declared.Fired.{Fired}
+use Rattle.stepping.specs.declared.Stepped.{Stepped}
+
+-- ---- the plan that words are read as, whatever they are; a taken plan is read as itself
+abbrev pub triggersIn : List ℕ → List Trigger
+triggersIn ws = rowsOf triggerSize triggerAt 32 (getD ws 3 0) (drop 6 ws)
+
+abbrev pub filtersIn : List ℕ → Layout → List Filter
+filtersIn ws lay = recordsOf filterSize filterAt (getD ws 4 0) (drop (lay .filters) ws)
+
+abbrev pub statementsIn : List ℕ → Layout → List plans.Statement
+statementsIn ws lay = rowsOf statementSize statementAt 16 (getD ws 5 0) (drop (lay .statements) ws)
+
+abbrev pub planBy : List ℕ → Layout → Plan
+planBy ws lay = record { channels = getD ws 1 0; logAll = eqb (getD ws 2 0) 1; triggers = triggersIn ws; filters = filtersIn ws lay; statements = statementsIn ws lay }
+
+-- ---- one event
+abbrev pub tickedOr : Bool → Answer → Answer
+tickedOr ticks a = cond ticks answers.Ticked a
+
+-- step 7, on what the statements left
+abbrev pub settledAt : Fired → List Bool → Logging → Bool → ℕ → Stepped
+settledAt fired truth acted ticks u = record {
+  answer = tickedOr ticks (recordedOrIdle (endedBy u acted));
+  engine = record { logging = endedBy u acted; fired = fired .last; truth = truth; started = true; last = u };
+}
+
+-- a fault is answered by 25, with the engine as it was
+abbrev pub steppedOf : Engine → Result → Stepped
+steppedOf en faults = record { answer = answers.Refused 25; engine = en }
+steppedOf en (gives a after) = record { answer = a; engine = after }
