@@ -1,0 +1,50 @@
+-- `naming::in_filters` meets its contract.
+use borrow.Author.Needs.{needs}
+use Rattle.naming.proofs.in_filters.Statement.{statement}
+use Rattle.naming.proofs.in_filters.Tie as tie
+use mathlib.Core.Path.{refl, sym, _∙_}
+use Rattle.ascii.specs.Texts.{bytes, same}
+use Rattle.schema.specs.Schema.{parents, parentIn, any}
+use Rattle.schema.specs.Steps.{nameOf, isCarried, kindUnder}
+use Rattle.schema.specs.declared.Kind.the-variants.{Filters, MessagePass, MessageStop}
+use Rattle.schema.proofs.Chains.{met}
+
+slice-aggregate-same-text : tie.Need-slice-aggregate-same-text
+slice-aggregate-same-text c = search needs
+
+same-text-requires : tie.Need-same-text-requires
+same-text-requires c κs = search needs
+
+returns : tie.Need-returns
+unfolding parents parentIn any nameOf isCarried bytes same
+returns c = met Filters MessagePass _ (sym (c .before .same-text .ensures) ∙ c .if1 .taken) refl refl
+
+slice-aggregate-same-text-2 : tie.Need-slice-aggregate-same-text-2
+slice-aggregate-same-text-2 c = search needs
+
+same-text-requires-2 : tie.Need-same-text-requires-2
+same-text-requires-2 c κs = search needs
+
+returns-2 : tie.Need-returns-2
+unfolding parents parentIn any nameOf isCarried bytes same
+returns-2 c = met Filters MessageStop _ (sym (c .before .same-text2 .ensures) ∙ c .if2 .taken) refl refl
+
+barred-filter-requires : tie.Need-barred-filter-requires
+barred-filter-requires c κs = search needs
+
+returns-3 : tie.Need-returns-3
+unfolding parents parentIn any nameOf kindUnder bytes same
+returns-3 c = c .barred-filter .ensures ∙ rw (sym (c .before .before .before .before .before .same-text .ensures) ∙ c .before .before .before .before .if1 .left, sym (c .before .before .same-text2 .ensures) ∙ c .before .if2 .left)
+
+pub in-filters-spec : {M : Type 1} → statement M
+in-filters-spec =
+    tie.close
+    (tie.spec
+    slice-aggregate-same-text
+    same-text-requires
+    returns
+    slice-aggregate-same-text-2
+    same-text-requires-2
+    returns-2
+    barred-filter-requires
+    returns-3)
