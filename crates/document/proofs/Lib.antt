@@ -1,0 +1,7 @@
+pub mod Flags
+pub mod Turns
+pub mod Seens
+pub mod Absorbs
+pub mod Visits
+pub mod Few
+pub mod Laws

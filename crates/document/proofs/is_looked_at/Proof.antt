@@ -1,0 +1,28 @@
+use borrow.Author.Needs.{needs}
+use Rattle.document.proofs.is_looked_at.Statement.{statement}
+use Rattle.document.proofs.is_looked_at.Tie as tie
+use mathlib.Core.Path.{sym, _∙_}
+use borrow.Author.Tests.{eq-eqb, ne-eqb}
+use Rattle.document.specs.Steps.{looked}
+
+returns : tie.Need-returns
+unfolding looked
+returns c = rw (ne-eqb (c .before .before .args .found .index .number) 0 (c .if1 .taken))
+
+is-carried-requires : tie.Need-is-carried-requires
+is-carried-requires c κs = search needs
+
+returns-2 : tie.Need-returns-2
+unfolding looked
+returns-2 c = rw (eq-eqb (c .before .before .before .before .args .found .index .number) 0 (c .before .before .if1 .left), sym (c .before .is-carried .ensures) ∙ c .if2 .taken)
+
+is-barred-requires : tie.Need-is-barred-requires
+is-barred-requires c κs = search needs
+
+returns-3 : tie.Need-returns-3
+unfolding looked
+returns-3 c = c .is-barred .ensures ∙ rw (eq-eqb (c .before .before .before .before .before .args .found .index .number) 0 (c .before .before .before .if1 .left), sym (c .before .before .is-carried .ensures) ∙ c .before .if2 .left)
+
+pub is-looked-at-spec : {M : Type 1} → statement M
+is-looked-at-spec =
+    tie.close (tie.spec returns is-carried-requires returns-2 is-barred-requires returns-3)

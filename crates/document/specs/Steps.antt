@@ -1,0 +1,172 @@
+-- What the functions answer, for every input. Code-shaped; proofs/Laws.antt ties it to the definitions. Nothing here has to be believed.
+use Prim.Native.Nat.{ℕ, zero, suc, _+_, _-_, _≤_}
+use mathlib.Core.Path.{_≡_}
+use mathlib.Core.Option.{some}
+use mathlib.Core.List.{List, [], _∷_, _++_, map}
+use mathlib.Core.Bool.{Bool, true, false, cond, _&&_, _||_}
+use lib.Dec.{leb, ltb, eqb}
+use lib.ListN.{length, getD, replicate, set}
+use lib.Seq.{slice}
+use Rattle.xml.specs.declared.Shape.{Shape}
+use Rattle.xml.specs.Shape.{Node, WellShaped, Shaped, refusalOf}
+use Rattle.walk.specs.declared.Item.{Item}
+use Rattle.walk.specs.declared.Body.{Body}
+use Rattle.walk.specs.Steps as walk
+use Rattle.schema.specs.declared.Kind.{Kind}
+use Rattle.schema.specs.declared.Kind.the-variants.{File, Kvaser, Version, Settings, Mode, CanBus, Parameters, TriggerBlock, Triggers, MsgId, MsgDlc, ErrorFrame, Startup, Statements, Statement, Expression, Actions, StartLog, StopLog, StopLogCompletely, Filters, MessagePass, MessageStop, Channel, NotCarried, Unknown}
+use Rattle.schema.specs.declared.Times.{Times}
+use Rattle.schema.specs.declared.Times.the-variants.{Once, OneTo, UpTo}
+use Rattle.schema.specs.Schema.{under}
+use Rattle.schema.specs.Steps.{nameOf, kinds, kindAmong, kindUnder, orderOf, isCarried}
+use Rattle.element.specs.Element.{Known, Fault, ownFaults}
+use Rattle.element.specs.Steps.{lacksFirst, ownFault, firstNumber}
+use Rattle.document.specs.Document.{known, elementFaults}
+use Rattle.document.specs.declared.Entry.{Entry}
+use Rattle.document.specs.declared.Index.{Index}
+use Rattle.document.specs.declared.Found.{Found}
+use Rattle.document.specs.declared.Seen.{Seen}
+
+abbrev pub noEntry : Entry
+noEntry = record { kind = File; place = 0 }
+
+abbrev pub refusal : ℕ → ℕ → Index
+refusal n p = record { number = n; place = p; count = 0; entries = replicate 382 noEntry }
+
+abbrev pub empty : Index
+empty = refusal 0 0
+
+-- one entry more, if there is room for it
+unfoldable pub entered : Index → Kind → ℕ → Index
+entered x k p =
+    cond (ltb (x .count) 382) (record { number = x .number; place = x .place; count = x .count + 1; entries = set (x .entries) (x .count) (record { kind = k; place = p }) }) x
+
+abbrev pub enteredFound : Found → Kind → ℕ → Found
+enteredFound r k p = record { index = entered (r .index) k p; lacking = r .lacking }
+
+abbrev pub refusedFound : Found → ℕ → ℕ → Found
+refusedFound r n p = record { index = refusal n p; lacking = r .lacking }
+
+-- ---- the same of a list of known elements
+unfoldable pub absorbed : Known → Index → Index
+absorbed k x =
+    cond (eqb (x .number) 0)
+    (cond (eqb (firstNumber (ownFaults k)) 0) (entered x (kindAmong kinds (k .name)) (k .place)) (refusal (firstNumber (ownFaults k)) (k .place))) x
+
+unfoldable pub absorb : List Known → Index → Index
+absorb [] x = x
+absorb (k ∷ ks) x = absorb ks (absorbed k x)
+
+-- ---- what an element holds so far: how many (counted up to 64), and which of those that it holds once
+abbrev pub noneSeen : Seen
+noneSeen = record { count = 0; names = replicate 5 false }
+
+-- beyond every limit the count stands still
+unfoldable pub oneMore : ℕ → ℕ
+oneMore n = cond (ltb n 64) (n + 1) n
+
+unfoldable pub marked : Seen → Kind → Seen
+marked s k = cond (isCarried k) (record { count = oneMore (s .count); names = set (s .names) (orderOf k) true }) s
+
+-- one too many of the kind k under the kind q
+abbrev pub overBy : Times → Kind → Seen → Bool
+overBy Once k s = getD (s .names) (orderOf k) false
+overBy (OneTo m) k s = leb m (s .count)
+overBy (UpTo m) k s = leb m (s .count)
+
+unfoldable pub isOver : Kind → Kind → Seen → Bool
+isOver q k s = overBy (under (nameOf q) .times) k s
+
+abbrev pub lacksBy : Times → Kind → Seen → Bool
+lacksBy Once q s = lacksFirst (length (under (nameOf q) .carried)) (s .names)
+lacksBy (OneTo m) q s = eqb (s .count) 0
+lacksBy (UpTo m) q s = false
+
+unfoldable pub lacksSome : Kind → Seen → Bool
+lacksSome q s = lacksBy (under (nameOf q) .times) q s
+
+-- at the end tag
+unfoldable pub closed : Found → Kind → Seen → Found
+closed r q s = record { index = r .index; lacking = r .lacking || lacksSome q s }
+
+-- ---- the walk
+-- the kind of the element at j, under the kind q
+unfoldable pub childAt : List ℕ → ℕ → Kind → Kind
+childAt f j q = kindUnder q (slice (walk.nameOf f j .from) (walk.nameOf f j .to) f)
+
+unfoldable pub isBarred : Kind → Bool
+isBarred File = false
+isBarred Kvaser = false
+isBarred Version = false
+isBarred Settings = false
+isBarred Mode = false
+isBarred CanBus = false
+isBarred Parameters = false
+isBarred TriggerBlock = false
+isBarred Triggers = false
+isBarred MsgId = false
+isBarred MsgDlc = false
+isBarred ErrorFrame = false
+isBarred Startup = false
+isBarred Statements = false
+isBarred Statement = false
+isBarred Expression = false
+isBarred Actions = false
+isBarred StartLog = false
+isBarred StopLog = false
+isBarred StopLogCompletely = false
+isBarred Filters = false
+isBarred MessagePass = false
+isBarred MessageStop = false
+isBarred Channel = false
+isBarred NotCarried = true
+isBarred Unknown = false
+
+-- not behind a fault; what is not known is skipped
+unfoldable pub looked : Found → Kind → Bool
+looked r k = eqb (r .index .number) 0 && (isCarried k || isBarred k)
+
+-- the first of 4, 7 for its kind, 5, 6, 7 for a value, or 0
+unfoldable pub faultAt : List ℕ → ℕ → Kind → Bool → ℕ
+faultAt f i k over = cond (isBarred k) 7 (cond over 4 (ownFault k f i))
+
+-- the items from j on, in an element of the kind q; n is more than there can be
+unfoldable pub visitItems : (ℕ → Kind → Bool → Found → Found) → List ℕ → Kind → ℕ → ℕ → Seen → Found → Found
+visitItems visit f q zero j s r = r
+visitItems visit f q (suc n) j s r =
+    elim (walk.itemAt f j) [ Item.Text k ↦ visitItems visit f q n k s r | Item.Remark k ↦ visitItems visit f q n k s r | Item.Child ↦ visitItems visit f q n (walk.skipped f j) (marked s (childAt f j q)) (visit j (childAt f j q) (isOver q (childAt f j q) s) r) | Item.Close k ↦ closed r q s | Item.Broken ↦ r ]
+
+unfoldable pub visitBody : (ℕ → Kind → Bool → Found → Found) → List ℕ → Kind → Found → Body → Found
+visitBody visit f q r (Body.Open o) = visitItems visit f q (suc (length f)) o noneSeen r
+visitBody visit f q r (Body.Empty e) = closed r q noneSeen
+visitBody visit f q r Body.Broken = r
+
+-- the element at i, of the kind k, and what it holds
+unfoldable pub visitFrom : List ℕ → ℕ → ℕ → Kind → Bool → Found → Found
+visitFrom f zero i k over r = r
+visitFrom f (suc d) i k over r =
+    cond (looked r k) (cond (eqb (faultAt f i k over) 0) (visitBody (visitFrom f d) f k (enteredFound r k i) (walk.contentAt f i)) (refusedFound r (faultAt f i k over) i)) r
+
+-- the index of a file of good shape
+abbrev pub noneFound : Found
+noneFound = record { index = empty; lacking = false }
+
+unfoldable pub indexAt : ℕ → Found → Index
+indexAt i r = cond (eqb (r .index .number) 0 && r .lacking) (refusal 8 i) (r .index)
+
+unfoldable pub indexed : List ℕ → Index
+indexed f =
+    cond (isCarried (childAt f (walk.rootAt f) File))
+    (indexAt (walk.rootAt f) (visitFrom f 8 (walk.rootAt f) (childAt f (walk.rootAt f) File) false noneFound))
+    (refusal 3 (walk.rootAt f))
+
+-- ---- what becomes of a file: a refusal by its shape, the first fault of its elements, or all its known elements
+abbrev pub entryOf : Known → Entry
+entryOf k = record { kind = kindAmong kinds (k .name); place = k .place }
+
+unfoldable pub indexOf : List Known → Index
+indexOf ks = record { number = 0; place = 0; count = length ks; entries = map entryOf ks ++ replicate (382 - length ks) noEntry }
+
+pub data Indexes (s : List ℕ) : Index → Type 0 where
+  shapeless : (a : Shape) (n p : ℕ) → Shaped s a → refusalOf a ≡ some (n, p) → Indexes s (refusal n p)
+  faulty : (x : Node) (a : Fault) (l : List Fault) → length s ≤ 32768 → WellShaped s x → elementFaults x ≡ a ∷ l → Indexes s (refusal (a .number) (a .place))
+  faultless : (x : Node) → length s ≤ 32768 → WellShaped s x → elementFaults x ≡ [] → Indexes s (indexOf (known x))
