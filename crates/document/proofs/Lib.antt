@@ -5,3 +5,4 @@ pub mod Absorbs
 pub mod Visits
 pub mod Few
 pub mod Laws
+pub mod Stood

@@ -50,7 +50,7 @@ or-none true = refl
 or-none false = refl
 
 -- ---- text before items changes nothing
-known-texted : (q : Parent) (earlier : List (List ℕ)) (w : List ℕ) (i : Items) → knownIn q earlier (texted w i) ≡ knownIn q earlier i
+pub known-texted : (q : Parent) (earlier : List (List ℕ)) (w : List ℕ) (i : Items) → knownIn q earlier (texted w i) ≡ knownIn q earlier i
 unfolding knownIn texted
 known-texted q earlier [] i = refl
 known-texted q earlier (b ∷ w) i = known-texted q earlier w i
@@ -92,7 +92,7 @@ module _ (f : List ℕ) where
   seen-child : (d j : ℕ) (x : Node) (m : ℕ) → ElementAt f d j x m → (q : Kind) (earlier : List (List ℕ)) (s : Seen) → SeenIs q earlier s → SeenIs q (counted (under (nameOf q)) earlier x) (marked s (childAt f j q))
   seen-child d j (node p n l i) m y q earlier s z = rw (child-kind d j (node p n l i) m y q) (seen-on q earlier s z n p l i)
 
-  content-inside : (d j : ℕ) (i : Items) (e : ℕ) → ContentAt f d j i e → j < length f
+  pub content-inside : (d j : ℕ) (i : Items) (e : ℕ) → ContentAt f d j i e → j < length f
   content-inside d j i e c = le-or-lt (length f) j (λ h. absurd (item-law f d j i e c Item.Broken (sym (item-over f j h)))) (λ h. h)
 
   -- what is held at depth d, where visits at that depth are right
