@@ -1,4 +1,3 @@
-pub mod Flags
 pub mod Turns
 pub mod Seens
 pub mod Absorbs

@@ -2,16 +2,15 @@
 use Prim.Native.Nat.{ℕ, suc, _+_, _-_, _≤_, _<_}
 use native.Mathlib.Omega.{arith}
 use native.Mathlib.Numerals.{add-one}
-use native.Mathlib.Nat.{sub-zero}
 use mathlib.Core.Path.{_≡_, refl, sym, ap, _∙_}
 use mathlib.Core.List.{List, [], _∷_}
 use mathlib.Core.Bool.{Bool, true, false, not, _&&_, _||_, true≢false}
-use lib.Dec.{ltb, eqb}
-use lib.ListN.{length, getD, drop, drop-of-length-le}
+use lib.Dec.{eqb}
+use lib.ListN.{length, getD, drop}
 use lib.Seq.{drop-cons}
-use borrow.Author.Tests.{eqb-true, not-true, lt-ltb, le-ltb}
+use borrow.Author.Tests.{eqb-true, not-true}
 use Rattle.ascii.specs.Texts.{bytes, same}
-use Rattle.ascii.proofs.Cases.{by-cases, le-or-lt}
+use Rattle.ascii.proofs.Cases.{by-cases}
 use Rattle.ascii.proofs.Equal.{same-self, same-equal}
 use Rattle.schema.specs.Schema.{Rule, any}
 use Rattle.schema.specs.Steps.{askedFrom, requiredIn, firstRequired, apart}
@@ -58,42 +57,3 @@ lacks-is got h (r ∷ rs) i l a f e =
     let z : eqb (requiredIn rs) 0 ≡ true = rw t at (f′ .0) in
     let q = eqb-true (requiredIn rs) 0 z in
     rw (t, q) (none-required (λ x. not (got (bytes (x .name)))) rs q))
-
--- turns of the loop that looks for one that lacks: what is left of the slots decides
-pub record LackTurn (n : ℕ) (h : List Bool) (i : ℕ) : Type 0 where
-  pub long : length h ≡ 12
-  pub upto : i ≤ 12
-  pub same : lacksFirst (n - i) (drop i h) ≡ lacksFirst n h
-
-pub lack-start : (n : ℕ) (h : List Bool) → length h ≡ 12 → LackTurn n h 0
-lack-start n h e = record { long = e; upto = omega arith; same = ap (λ (m : ℕ). lacksFirst m h) (sub-zero n) }
-
-module _ (n : ℕ) (h : List Bool) (i : ℕ) (t : LackTurn n h i) where
-  pub lack-enough : n ≤ i → false ≡ lacksFirst n h
-  unfolding lacksFirst
-  lack-enough l = let e : n - i ≡ 0 = omega arith in sym (ap (λ (m : ℕ). lacksFirst m (drop i h)) e) ∙ t .same
-
-  one-left : i < n → i < 12 → lacksFirst (n - i) (drop i h) ≡ (not (getD h i false) || lacksFirst (n - (i + 1)) (drop (i + 1) h))
-  unfolding lacksFirst
-  one-left l u =
-      let e : n - i ≡ suc (n - (i + 1)) = omega arith in
-      rw (e, drop-held h i (omega (arith, t .long)))
-
-  pub lack-more : i < n → i < 12 → getD h i false ≡ true → LackTurn n h (i + 1)
-  lack-more l u b = record {
-    long = t .long;
-    upto = omega arith;
-    same = sym (one-left l u ∙ ap (λ (x : Bool). not x || lacksFirst (n - (i + 1)) (drop (i + 1) h)) b) ∙ t .same;
-  }
-
-  pub lack-here : i < n → i < 12 → getD h i false ≡ false → true ≡ lacksFirst n h
-  lack-here l u b = sym (one-left l u ∙ ap (λ (x : Bool). not x || lacksFirst (n - (i + 1)) (drop (i + 1) h)) b) ∙ t .same
-
-  pub lack-end : 12 ≤ i → ltb 12 n ≡ lacksFirst n h
-  unfolding lacksFirst
-  lack-end l =
-      let none = drop-of-length-le h {i = i} (omega (arith, t .long)) in
-      let q : lacksFirst (n - i) [] ≡ lacksFirst n h = sym (ap (lacksFirst (n - i)) none) ∙ t .same in
-      le-or-lt n 12
-      (λ m. let e : n - i ≡ 0 = omega arith in le-ltb 12 n m ∙ (sym (ap (λ (x : ℕ). lacksFirst x []) e) ∙ q))
-      (λ m. let e : n - i ≡ suc (n - i - 1) = omega (arith, t .upto) in lt-ltb 12 n m ∙ (sym (ap (λ (x : ℕ). lacksFirst x []) e) ∙ q))

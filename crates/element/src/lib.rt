@@ -4,7 +4,9 @@
 // well-shaped file these are the faults and values of specs/Element.antt.
 // May not touch: other elements. Which elements are known, and what their parent holds already, it is told.
 ghost use mathlib.Core.Path.{_≡_};
+ghost use mathlib.Core.Bool.{false};
 ghost use Prim.Native.Nat.{_<_};
+ghost use lib.ListN.{getD};
 ghost use Rattle.ascii.specs.Texts.{bytes, same};
 ghost use Rattle.values.specs.Values.{worth};
 ghost use Rattle.walk.specs.Text.{trimmed};
@@ -124,22 +126,25 @@ pub fn gather(file: &[u8], i: usize, kind: Kind) -> Gathered
     g
 }
 
+fn is_there(has: [bool; 12], i: usize) -> bool
+    ensures { λ r. ⌜ r ≡ getD has i false ⌝ }
+{
+    if i < SLOTS { has[i] } else { false }
+}
+
 // Is one of the first n not there?
 fn lacks_first(has: [bool; 12], n: usize) -> bool
     ensures { λ r. ⌜ r ≡ lacksFirst n has ⌝ }
 {
     let mut i = 0;
-    while i < SLOTS {
-        if n <= i {
-            return false;
-        }
-        if has[i] {
+    while i < n {
+        if is_there(has, i) {
             i += 1;
         } else {
             return true;
         }
     }
-    SLOTS < n
+    false
 }
 
 // Has a filter one of dlc and dlc_min without the other?

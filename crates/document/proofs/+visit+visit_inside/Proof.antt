@@ -1,3 +1,4 @@
+-- `document::visit` and `document::visit_inside`, which call each other, meet their contracts. The depth that is left falls; the loop's invariant: from here the answer is the whole one.
 use Prim.Native.Nat.{ℕ, _<_}
 use borrow.Fn.Kinds.{In}
 use borrow.Fn.PlainCycle.{Measures, is, falls, and}

@@ -1,3 +1,4 @@
+-- `document::child_at` meets its contract.
 use borrow.Author.Needs.{needs}
 use Rattle.document.proofs.child_at.Statement.{statement}
 use Rattle.document.proofs.child_at.Tie as tie

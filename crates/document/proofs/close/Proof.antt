@@ -1,3 +1,4 @@
+-- `document::close` meets its contract.
 use borrow.Author.Needs.{needs}
 use Rattle.document.proofs.close.Statement.{statement}
 use Rattle.document.proofs.close.Tie as tie

@@ -1,3 +1,4 @@
+-- `document::enter` meets its contract.
 use borrow.Author.Needs.{needs}
 use Rattle.document.proofs.enter.Statement.{statement}
 use Rattle.document.proofs.enter.Tie as tie

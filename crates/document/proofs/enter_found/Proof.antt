@@ -1,3 +1,4 @@
+-- `document::enter_found` meets its contract.
 use borrow.Author.Needs.{needs}
 use Rattle.document.proofs.enter_found.Statement.{statement}
 use Rattle.document.proofs.enter_found.Tie as tie

@@ -1,3 +1,4 @@
+-- `document::fault_at` meets its contract.
 use borrow.Author.Needs.{needs}
 use Rattle.document.proofs.fault_at.Statement.{statement}
 use Rattle.document.proofs.fault_at.Tie as tie

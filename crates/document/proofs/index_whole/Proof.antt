@@ -1,3 +1,4 @@
+-- `document::index_whole` meets its contract.
 use borrow.Author.Needs.{needs}
 use Rattle.document.proofs.index_whole.Statement.{statement}
 use Rattle.document.proofs.index_whole.Tie as tie

@@ -1,3 +1,4 @@
+-- `document::is_barred` meets its contract.
 use borrow.Author.Needs.{needs}
 use Rattle.document.proofs.is_barred.Statement.{statement}
 use Rattle.document.proofs.is_barred.Tie as tie

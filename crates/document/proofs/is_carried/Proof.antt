@@ -1,3 +1,4 @@
+-- `document::is_carried` meets its contract.
 use borrow.Author.Needs.{needs}
 use Rattle.document.proofs.is_carried.Statement.{statement}
 use Rattle.document.proofs.is_carried.Tie as tie

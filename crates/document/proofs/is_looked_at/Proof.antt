@@ -1,3 +1,4 @@
+-- `document::is_looked_at` meets its contract.
 use borrow.Author.Needs.{needs}
 use Rattle.document.proofs.is_looked_at.Statement.{statement}
 use Rattle.document.proofs.is_looked_at.Tie as tie

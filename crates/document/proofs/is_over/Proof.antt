@@ -1,3 +1,4 @@
+-- `document::is_over` meets its contract.
 use borrow.Author.Needs.{needs}
 use Rattle.document.proofs.is_over.Statement.{statement}
 use Rattle.document.proofs.is_over.Tie as tie

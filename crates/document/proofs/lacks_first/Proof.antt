@@ -1,3 +1,4 @@
+-- `document::lacks_first` meets its contract. The loop's invariant: what the first n lack is what those from `at` on lack.
 use Rattle.document.proofs.lacks_first.Statement.{statement}
 use Rattle.document.proofs.lacks_first.Tie as tie
 use Prim.Native.Nat.{_-_}
@@ -5,7 +6,7 @@ use mathlib.Core.Path.{_≡_}
 use native.Mathlib.Omega.{arith}
 use lib.ListN.{drop}
 use Rattle.element.specs.Steps.{lacksFirst}
-use Rattle.document.proofs.Flags.{lacks-start, lacks-more, lacks-found, lacks-none}
+use Rattle.element.proofs.Flags.{lacks-start, lacks-more, lacks-found, lacks-none}
 use borrow.Author.Needs.{needs}
 
 abbrev Inv-loop : tie.InvT-loop

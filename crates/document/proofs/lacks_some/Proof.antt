@@ -1,3 +1,4 @@
+-- `document::lacks_some` meets its contract.
 use borrow.Author.Needs.{needs}
 use Rattle.document.proofs.lacks_some.Statement.{statement}
 use Rattle.document.proofs.lacks_some.Tie as tie

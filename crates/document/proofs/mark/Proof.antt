@@ -1,3 +1,4 @@
+-- `document::mark` meets its contract.
 use borrow.Author.Needs.{needs}
 use Rattle.document.proofs.mark.Statement.{statement}
 use Rattle.document.proofs.mark.Tie as tie

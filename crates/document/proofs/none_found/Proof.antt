@@ -1,3 +1,4 @@
+-- `document::none_found` meets its contract.
 use borrow.Author.Needs.{needs}
 use Rattle.document.proofs.none_found.Statement.{statement}
 use Rattle.document.proofs.none_found.Tie as tie

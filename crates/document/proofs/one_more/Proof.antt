@@ -1,3 +1,4 @@
+-- `document::one_more` meets its contract.
 use borrow.Author.Needs.{needs}
 use Rattle.document.proofs.one_more.Statement.{statement}
 use Rattle.document.proofs.one_more.Tie as tie

@@ -1,3 +1,4 @@
+-- `document::read_index` meets its contract.
 use borrow.Author.Needs.{needs}
 use Rattle.document.proofs.read_index.Statement.{statement}
 use Rattle.document.proofs.read_index.Tie as tie

@@ -1,3 +1,4 @@
+-- `document::refused` meets its contract.
 use borrow.Author.Needs.{needs}
 use Rattle.document.proofs.refused.Statement.{statement}
 use Rattle.document.proofs.refused.Tie as tie

@@ -1,3 +1,4 @@
+-- `document::settle` meets its contract.
 use borrow.Author.Needs.{needs}
 use Rattle.document.proofs.settle.Statement.{statement}
 use Rattle.document.proofs.settle.Tie as tie

@@ -1,23 +1,11 @@
--- The flags of what an element holds once.
+-- Flags in a row: the loop that looks for one that is not there.
 use Prim.Native.Nat.{ℕ, zero, suc, _+_, _-_, _≤_, _<_}
 use native.Mathlib.Omega.{arith}
 use mathlib.Core.Path.{_≡_, refl, sym, ap, _∙_}
 use mathlib.Core.List.{List, [], _∷_}
 use mathlib.Core.Bool.{Bool, true, false, not, _||_}
-use lib.ListN.{length, getD, set, drop}
+use lib.ListN.{getD, drop}
 use Rattle.element.specs.Steps.{lacksFirst}
-
--- a flag behind the last is not there
-pub flag-over : (l : List Bool) (i : ℕ) → length l ≤ i → getD l i false ≡ false
-flag-over [] i h = refl
-flag-over (b ∷ l) zero h = absurd (omega arith)
-flag-over (b ∷ l) (suc i) h = flag-over l i (omega arith)
-
--- and setting it changes nothing
-pub set-over : (l : List Bool) (i : ℕ) (b : Bool) → length l ≤ i → set l i b ≡ l
-set-over [] i b h = refl
-set-over (c ∷ l) zero b h = absurd (omega arith)
-set-over (c ∷ l) (suc i) b h = ap (λ (t : List Bool). c ∷ t) (set-over l i b (omega arith))
 
 -- one of the first flags lacks: the loop goes over those before i
 lacks-step : (m i : ℕ) (l : List Bool) → lacksFirst (suc m) (drop i l) ≡ (not (getD l i false) || lacksFirst m (drop (i + 1) l))
