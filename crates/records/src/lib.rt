@@ -68,7 +68,8 @@ pub fn word(words: &[u32], i: usize) -> u32
     if i < words.len() { words[i] } else { 0 }
 }
 
-fn timeout_at(w: u32) -> Timeout
+// The timeout that a word stands for.
+pub fn timeout_at(w: u32) -> Timeout
     ensures { λ r. ⌜ r ≡ timeoutAt w ⌝ }
 {
     if w == 4294967295 {
