@@ -64,7 +64,7 @@ timeout-back : (t : Timeout) → timeoutIn t ≡ true → timeoutAt (timeoutWord
 timeout-back Forever h = refl
 timeout-back (Ms t) h = rw (ne-eqb t 4294967295 (λ e. omega (arith, leb-true t 1000000000 h)))
 
-cause-long : (w : ℕ) (c : Cause) → length (causeWords w c) ≡ 6
+pub cause-long : (w : ℕ) (c : Cause) → length (causeWords w c) ≡ 6
 cause-long w (Id channel ext lower upper) = refl
 cause-long w (Length channel lower upper) = refl
 cause-long w (Error channel) = refl
