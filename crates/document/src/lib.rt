@@ -290,7 +290,7 @@ fn visit_inside(file: &[u8], i: usize, kind: Kind, left: usize, entered: Found) 
                         let surplus = is_over(kind, child, seen);
                         all = visit(file, j, child, surplus, left, all);
                         seen = mark(seen, child);
-                        j = walk::skip(file, j);
+                        j = passing::skip(file, j);
                     }
                     Item::Close(_) => {
                         return close(all, kind, seen);

@@ -201,7 +201,7 @@ fn is_bad(w: Worth) -> bool
 fn number_in(text: &[u8]) -> Worth
     ensures { λ r. ⌜ r ≡ worth (0 to 4) (trimmed (now (text .entry))) ⌝ }
 {
-    let part = walk::trim(text);
+    let part = passing::trim(text);
     let a = part.from;
     let e = part.to;
     let sort = Sort::Numeric {
@@ -215,7 +215,7 @@ fn number_in(text: &[u8]) -> Worth
 fn is_version(text: &[u8]) -> bool
     ensures { λ r. ⌜ r ≡ same (trimmed (now (text .entry))) (bytes "2.0") ⌝ }
 {
-    let part = walk::trim(text);
+    let part = passing::trim(text);
     let a = part.from;
     let e = part.to;
     ascii::same_text(&text[a..e], b"2.0")
@@ -226,7 +226,7 @@ pub fn channel_number(file: &[u8], i: usize) -> Worth
     ensures { λ r. ⌜ r ≡ numbered (now (file .entry)) i ⌝ }
 {
     let mut text = [0; 32768];
-    let n = walk::gather_text(file, i, &mut text);
+    let n = passing::gather_text(file, i, &mut text);
     number_in(&text[..n])
 }
 
@@ -235,7 +235,7 @@ fn has_version(file: &[u8], i: usize) -> bool
     ensures { λ r. ⌜ r ≡ same (shortText (now (file .entry)) i) (bytes "2.0") ⌝ }
 {
     let mut spelt = [0; 32768];
-    let n = walk::gather_text(file, i, &mut spelt);
+    let n = passing::gather_text(file, i, &mut spelt);
     is_version(&spelt[..n])
 }
 
@@ -253,7 +253,7 @@ fn bad_text(file: &[u8], i: usize, kind: Kind) -> bool
             is_bad(w)
         }
         Kind::Expression => false,
-        _ => walk::has_text(file, i),
+        _ => passing::has_text(file, i),
     }
 }
 

@@ -19,7 +19,7 @@ use Rattle.document.proofs.none_seen.Reads as none-seen-reads
 use Rattle.document.proofs.refused.Reads as refused-reads
 use Rattle.walk.proofs.content_at.Reads as content-at-reads
 use Rattle.walk.proofs.item_at.Reads as item-at-reads
-use Rattle.walk.proofs.skip.Reads as skip-reads
+use Rattle.passing.proofs.skip.Reads as skip-reads
 use Rattle.document.proofs.+visit+visit_inside.{statement}
 use Rattle.document.proofs.+visit+visit_inside.Tie.{close}
 use Prim.Native.Nat.{_-_, _+_, _*_}
