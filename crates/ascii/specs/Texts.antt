@@ -1,10 +1,10 @@
--- Texts in quotes, as the bytes that a file holds.
+-- Paper 01, all sections: texts that it quotes, as the bytes that a file holds.
 use Prim.Native.String.{String}
 use Prim.Native.Char.{Char, code}
 use Prim.Native.Nat.{ℕ}
 use mathlib.Core.List.{List, [], _∷_}
-use mathlib.Core.Bool.{Bool, true, false, _&&_, _||_}
-use lib.Dec.{leb, eqb}
+use mathlib.Core.Bool.{Bool, true, false, _&&_}
+use lib.Dec.{eqb}
 
 unfoldable pub bytes : String → List ℕ
 bytes String.[] = []
@@ -15,18 +15,6 @@ infixr 67 _▹_
 abbrev pub _▹_ : String → List ℕ → List ℕ
 String.[] ▹ t = t
 (String._∷_ c s) ▹ t = code c ∷ (s ▹ t)
-
--- is the byte one of the quoted ones
-abbrev pub among : String → ℕ → Bool
-among String.[] b = false
-among (String._∷_ c String.[]) b = eqb b (code c)
-among (String._∷_ c (String._∷_ d s)) b = eqb b (code c) || among (String._∷_ d s) b
-
--- is the byte from the first quoted one to the second
-abbrev pub between : String → ℕ → Bool
-between String.[] b = false
-between (String._∷_ c String.[]) b = false
-between (String._∷_ c (String._∷_ d s)) b = leb (code c) b && leb b (code d)
 
 -- are two texts the same
 unfoldable pub same : List ℕ → List ℕ → Bool

@@ -1,60 +1,14 @@
-// Bytes as readers of text see them: kinds of bytes, runs of one kind, equal texts.
+// Texts as their readers see them: runs of bytes of one kind, equal texts.
 //
 // Promises: every answer is the definition's, for every input.
 // May not touch: what any text means. It knows no format.
 ghost use mathlib.Core.Path.{_≡_};
-ghost use mathlib.Core.Bool.{_&&_};
-ghost use lib.Dec.{leb};
 ghost use lib.ListN.{drop};
 ghost use Rattle.ascii.specs.Texts.{same};
-ghost use Rattle.ascii.specs.Kinds.{isBlank, isStart, isDigit, isName, isDecl, isValue, isAny, isText, spanAt};
-
-fn within(b: u8, lo: u8, hi: u8) -> bool
-    ensures { λ r. ⌜ r ≡ (leb lo b && leb b hi) ⌝ }
-{
-    if lo <= b { b <= hi } else { false }
-}
-
-pub fn is_blank(b: u8) -> bool
-    ensures { λ r. ⌜ r ≡ isBlank b ⌝ }
-{
-    if b == b' ' {
-        true
-    } else if b == b'\t' {
-        true
-    } else if b == b'\r' {
-        true
-    } else {
-        b == b'\n'
-    }
-}
-
-pub fn is_start(b: u8) -> bool
-    ensures { λ r. ⌜ r ≡ isStart b ⌝ }
-{
-    if within(b, b'a', b'z') {
-        true
-    } else if within(b, b'A', b'Z') {
-        true
-    } else {
-        b == b'_'
-    }
-}
-
-pub fn is_digit(b: u8) -> bool
-    ensures { λ r. ⌜ r ≡ isDigit b ⌝ }
-{
-    within(b, b'0', b'9')
-}
-
-pub fn is_name(b: u8) -> bool
-    ensures { λ r. ⌜ r ≡ isName b ⌝ }
-{
-    if is_start(b) { true } else { is_digit(b) }
-}
+ghost use Rattle.letters.specs.Kinds.{isBlank, isName, isDecl, isValue, isText, spanAt};
 
 // A byte of a value.
-pub fn is_value(b: u8) -> bool
+fn is_value(b: u8) -> bool
     ensures { λ r. ⌜ r ≡ isValue b ⌝ }
 {
     if b == b'<' {
@@ -64,22 +18,11 @@ pub fn is_value(b: u8) -> bool
     } else if b == b'"' {
         false
     } else {
-        within(b, 0x20, 0x7E)
+        letters::within(b, 0x20, 0x7E)
     }
 }
 
-// A byte that may stand in a comment.
-pub fn is_any(b: u8) -> bool
-    ensures { λ r. ⌜ r ≡ isAny b ⌝ }
-{
-    if within(b, 0x20, 0xFF) {
-        true
-    } else {
-        is_blank(b)
-    }
-}
-
-pub fn is_text(b: u8) -> bool
+fn is_text(b: u8) -> bool
     ensures { λ r. ⌜ r ≡ isText b ⌝ }
 {
     if b == b'&' {
@@ -87,20 +30,20 @@ pub fn is_text(b: u8) -> bool
     } else if b == b'<' {
         false
     } else {
-        is_any(b)
+        letters::is_any(b)
     }
 }
 
 // A byte of the declaration at a file's start.
-pub fn is_decl(b: u8) -> bool
+fn is_decl(b: u8) -> bool
     ensures { λ r. ⌜ r ≡ isDecl b ⌝ }
 {
     if b == b'?' {
         false
-    } else if within(b, 0x20, 0x7E) {
+    } else if letters::within(b, 0x20, 0x7E) {
         true
     } else {
-        is_blank(b)
+        letters::is_blank(b)
     }
 }
 
@@ -111,7 +54,7 @@ pub fn blanks_end(s: &[u8], i: usize) -> usize
     let mut j = i;
     while j < s.len() {
         let b = s[j];
-        if is_blank(b) {
+        if letters::is_blank(b) {
             j += 1;
         } else {
             return j;
@@ -127,7 +70,7 @@ pub fn name_end(s: &[u8], i: usize) -> usize
     let mut j = i;
     while j < s.len() {
         let b = s[j];
-        if is_name(b) {
+        if letters::is_name(b) {
             j += 1;
         } else {
             return j;

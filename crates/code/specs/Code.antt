@@ -1,4 +1,4 @@
--- Postfix code: its words, the stack machine that runs it, and what the loader asks of it.
+-- Paper 01, "Expressions" and "The plan": postfix code, its words, the stack machine that runs it, and what the loader asks of it.
 -- "Code is postfix, left operand first: 0 to 31 pushes that trigger's state (triggers count from 0 in file order), 32 AND, 33 OR, 34 NOT."
 -- "The loader takes a plan exactly if .. each pushed trigger below the plan's number of triggers ..
 -- and the code never pops from an empty stack, holds at most 24, and leaves one value."

@@ -232,7 +232,7 @@ fn fault_at(file: &[u8], i: usize, kind: Kind, over: bool) -> u32
     if over {
         return 4;
     }
-    element::own_fault(file, i, kind)
+    judging::own_fault(file, i, kind)
 }
 
 // Is an element of that kind looked at? Not behind a fault.

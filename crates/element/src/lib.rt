@@ -1,18 +1,15 @@
-// One element of a known kind: its attributes, its text, and its own faults (refusals 4 to 7).
+// One element of a known kind: its attributes and the channel in its text; and what its own faults are (refusals 4 to 7), which
+// `judging` finds.
 //
 // Promises: each answer is the function of the bytes that specs/Steps.antt gives, for every input; proofs/Laws.antt says that on a
 // well-shaped file these are the faults and values of specs/Element.antt.
 // May not touch: other elements. Which elements are known, and what their parent holds already, it is told.
 ghost use mathlib.Core.Path.{_≡_};
-ghost use mathlib.Core.Bool.{false};
 ghost use Prim.Native.Nat.{_<_};
-ghost use lib.ListN.{getD};
-ghost use Rattle.ascii.specs.Texts.{bytes, same};
 ghost use Rattle.values.specs.Values.{worth};
 ghost use Rattle.walk.specs.Text.{trimmed};
 ghost use Rattle.schema.specs.Schema.{_to_};
-ghost use Rattle.element.specs.Element.{isBad};
-ghost use Rattle.element.specs.Steps.{nothing, put, unfit, judged, gathered, lacksFirst, unpaired, lacking, idsCrossed, boundsCrossed, shortText, numbered, badText, ownFault, valueAt};
+ghost use Rattle.element.specs.Steps.{nothing, put, unfit, judged, gathered, numbered, valueAt};
 use schema::Asked;
 use schema::Kind;
 use values::Sort;
@@ -31,11 +28,9 @@ pub struct Gathered {
 }
 
 // No element has more rules than this; a slot behind the last is that of no rule.
-const SLOTS: usize = 12;
+pub const SLOTS: usize = 12;
 
 const LAST_CHANNEL: u32 = 4;
-
-const LAST_STANDARD: u32 = 2047;
 
 // Before the first attribute.
 fn nothing() -> Gathered
@@ -94,7 +89,7 @@ fn judge(g: Gathered, asked: Asked, text: &[u8]) -> Gathered
         return unfit(g);
     }
     let sort = asked.sort;
-    let w = values::worth_of(sort, text);
+    let w = worth::worth_of(sort, text);
     put(g, slot, w)
 }
 
@@ -126,77 +121,6 @@ pub fn gather(file: &[u8], i: usize, kind: Kind) -> Gathered
     g
 }
 
-fn is_there(has: [bool; 12], i: usize) -> bool
-    ensures { λ r. ⌜ r ≡ getD has i false ⌝ }
-{
-    if i < SLOTS { has[i] } else { false }
-}
-
-// Is one of the first n not there?
-fn lacks_first(has: [bool; 12], n: usize) -> bool
-    ensures { λ r. ⌜ r ≡ lacksFirst n has ⌝ }
-{
-    let mut i = 0;
-    while i < n {
-        if is_there(has, i) {
-            i += 1;
-        } else {
-            return true;
-        }
-    }
-    false
-}
-
-// Has a filter one of dlc and dlc_min without the other?
-fn is_unpaired(kind: Kind, has: [bool; 12]) -> bool
-    ensures { λ r. ⌜ r ≡ unpaired kind has ⌝ }
-{
-    match kind {
-        Kind::MessagePass | Kind::MessageStop => (has[6] & !has[7]) | (has[7] & !has[6]),
-        _ => false,
-    }
-}
-
-// Does a required attribute lack, or one of a pair?
-fn lacks(kind: Kind, has: [bool; 12]) -> bool
-    ensures { λ r. ⌜ r ≡ lacking kind has ⌝ }
-{
-    let n = schema::required_of(kind);
-    if lacks_first(has, n) {
-        return true;
-    }
-    is_unpaired(kind, has)
-}
-
-// Is an identifier too large, or the lower one above the upper?
-fn ids_crossed(upper: u32, lower: u32, ext: u32) -> bool
-    ensures { λ r. ⌜ r ≡ idsCrossed upper lower ext ⌝ }
-{
-    ((ext == 0) & ((LAST_STANDARD < upper) | (LAST_STANDARD < lower))) | (upper < lower)
-}
-
-// Do the values of an element of the kind break its bounds?
-fn bounds_crossed(kind: Kind, v: [u32; 12]) -> bool
-    ensures { λ r. ⌜ r ≡ boundsCrossed kind v ⌝ }
-{
-    match kind {
-        Kind::MsgId => ids_crossed(v[3], v[4], v[5]),
-        Kind::MsgDlc => v[3] < v[4],
-        Kind::MessagePass | Kind::MessageStop => { ids_crossed(v[0], v[1], v[2]) | (v[6] < v[7]) }
-        _ => false,
-    }
-}
-
-fn is_bad(w: Worth) -> bool
-    ensures { λ r. ⌜ r ≡ isBad w ⌝ }
-{
-    match w {
-        Worth::Good(_) => false,
-        Worth::Bad => true,
-        Worth::NotCarried => false,
-    }
-}
-
 // The channel that a text names, blanks at its ends aside.
 fn number_in(text: &[u8]) -> Worth
     ensures { λ r. ⌜ r ≡ worth (0 to 4) (trimmed (now (text .entry))) ⌝ }
@@ -209,16 +133,7 @@ fn number_in(text: &[u8]) -> Worth
         hi: LAST_CHANNEL,
         most: LAST_CHANNEL,
     };
-    values::worth_of(sort, &text[a..e])
-}
-
-fn is_version(text: &[u8]) -> bool
-    ensures { λ r. ⌜ r ≡ same (trimmed (now (text .entry))) (bytes "2.0") ⌝ }
-{
-    let part = passing::trim(text);
-    let a = part.from;
-    let e = part.to;
-    ascii::same_text(&text[a..e], b"2.0")
+    worth::worth_of(sort, &text[a..e])
 }
 
 // The channel that the text of the element at i names.
@@ -228,61 +143,6 @@ pub fn channel_number(file: &[u8], i: usize) -> Worth
     let mut text = [0; 32768];
     let n = passing::gather_text(file, i, &mut text);
     number_in(&text[..n])
-}
-
-// Is the text of the element at i the version that is carried?
-fn has_version(file: &[u8], i: usize) -> bool
-    ensures { λ r. ⌜ r ≡ same (shortText (now (file .entry)) i) (bytes "2.0") ⌝ }
-{
-    let mut spelt = [0; 32768];
-    let n = passing::gather_text(file, i, &mut spelt);
-    is_version(&spelt[..n])
-}
-
-// Has the element at i a text that its kind may not have?
-fn bad_text(file: &[u8], i: usize, kind: Kind) -> bool
-    ensures { λ r. ⌜ r ≡ badText kind (now (file .entry)) i ⌝ }
-{
-    match kind {
-        Kind::Version => {
-            let good = has_version(file, i);
-            !good
-        }
-        Kind::Channel => {
-            let w = channel_number(file, i);
-            is_bad(w)
-        }
-        Kind::Expression => false,
-        _ => passing::has_text(file, i),
-    }
-}
-
-// The first of 5, 6, 7 for a value that the element at i gives; 0 if it gives none.
-pub fn own_fault(file: &[u8], i: usize, kind: Kind) -> u32
-    ensures { λ r. ⌜ r ≡ ownFault kind (now (file .entry)) i ⌝ }
-{
-    let g = gather(file, i, kind);
-    let has = g.has;
-    let values = g.values;
-    if g.five {
-        return 5;
-    }
-    if lacks(kind, has) {
-        return 5;
-    }
-    if g.six {
-        return 6;
-    }
-    if bounds_crossed(kind, values) {
-        return 6;
-    }
-    if bad_text(file, i, kind) {
-        return 6;
-    }
-    if g.seven {
-        return 7;
-    }
-    0
 }
 
 // The value of the attribute of that name of the element at i; nothing at 0 if it has none.

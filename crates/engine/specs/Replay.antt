@@ -1,4 +1,4 @@
--- A replay: a list of events from fresh, as bytes in and bytes out.
+-- Paper 01, "One event", for hosts in C: a list of events from fresh, as bytes in and bytes out.
 use Prim.Native.Nat.{ℕ, zero, suc, _*_, _/_}
 use mathlib.Core.List.{List, [], _++_}
 use mathlib.Core.Bool.{cond}

@@ -6,7 +6,7 @@ use mathlib.Core.Option.{Option, none, some}
 use mathlib.Core.List.{List, [], _∷_}
 use lib.ListN.{take}
 use Rattle.ascii.specs.Texts.{bytes, same}
-use Rattle.ascii.specs.Kinds.{isBlank, isStart, isDigit, isName}
+use Rattle.letters.specs.Kinds.{isBlank, isStart, isDigit, isName}
 use Rattle.code.specs.Code.{wordOf}
 use Rattle.lexer.specs.Lex.{find, numberOf}
 use Rattle.lexer.specs.Steps.{lex, numbers}

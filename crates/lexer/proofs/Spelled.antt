@@ -7,7 +7,7 @@ use mathlib.Core.Option.{Option, none, some}
 use mathlib.Core.List.{List, [], _∷_, _++_, map}
 use lib.Dec.{eqb}
 use borrow.Author.Tests.{eqb-true}
-use Rattle.ascii.specs.Kinds.{isBlank, isStart, isDigit, isName}
+use Rattle.letters.specs.Kinds.{isBlank, isStart, isDigit, isName}
 use Rattle.ascii.proofs.Cases.{by-cases}
 use Rattle.lexer.specs.Lex.{Token, word, left, right, Letters, inWord, Spells, over, blank, opening, closing, letters, numberOf, unfit, laid}
 use Rattle.lexer.specs.Steps.{put, grow, lex, mapped, numbers, lexed}

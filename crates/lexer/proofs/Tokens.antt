@@ -9,7 +9,7 @@ use mathlib.Core.List.{List, [], _∷_, _++_, map, append-assoc, append-nil}
 use lib.ListN.{length, take, drop, set, getD, replicate, length-append, length-take, length-set, drop-of-length-le, take-append-drop}
 use lib.Seq.{drop-drop, drop-set-lt, take-suc-set}
 use borrow.Author.Tests.{eq-eqb, ne-eqb, le-leb, lt-leb}
-use Rattle.ascii.specs.Kinds.{isBlank, isName, spanAt}
+use Rattle.letters.specs.Kinds.{isBlank, isName, spanAt}
 use Rattle.ascii.proofs.Cases.{by-cases}
 use Rattle.ascii.proofs.Spans.{drop-one, span-more, high-of}
 use Rattle.lexer.specs.Lex.{Token, word, left, right, inWord, numberOf, unfit, laid}

@@ -8,7 +8,7 @@ use mathlib.Core.List.{List, [], _∷_, _++_}
 use lib.ListN.{length, take, drop, replicate}
 use lib.Dec.{leb}
 use Rattle.ascii.specs.Texts.{bytes, _▹_, same}
-use Rattle.ascii.specs.Kinds.{isBlank, isName}
+use Rattle.letters.specs.Kinds.{isBlank, isName}
 use Rattle.lexer.specs.declared.Lexed.{Lexed}
 
 pub data Token : Type 0 where

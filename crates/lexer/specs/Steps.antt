@@ -5,8 +5,7 @@ use mathlib.Core.Bool.{cond}
 use mathlib.Core.Option.{Option, none, some}
 use mathlib.Core.List.{List, [], _∷_, map}
 use lib.ListN.{length, drop}
-use Rattle.ascii.specs.Texts.{among}
-use Rattle.ascii.specs.Kinds.{isBlank, isName}
+use Rattle.letters.specs.Kinds.{among, isBlank, isName}
 use Rattle.lexer.specs.Lex.{Token, word, left, right, inWord, numberOf, laid}
 use Rattle.lexer.specs.declared.Lexed.{Lexed}
 use Rattle.lexer.specs.declared.Step.{Step}

@@ -91,11 +91,11 @@ fn next_token(text: &[u8], at: usize, file: &[u8], starts: &[usize], ends: &[usi
     ensures { λ r. ⌜ Steps (namesIn (now (file .entry)) (now (starts .entry)) (now (ends .entry))) (now (text .entry)) at r ⌝ }
 {
     let b = text[at];
-    if ascii::is_name(b) {
+    if letters::is_name(b) {
         let end = ascii::name_end(text, at);
         return Step::Next(word_number(&text[at..end], file, starts, ends), end);
     }
-    if ascii::is_blank(b) {
+    if letters::is_blank(b) {
         return Step::Skip;
     }
     if b == b'(' {

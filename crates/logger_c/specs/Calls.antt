@@ -1,4 +1,4 @@
--- What the two calls answer, beside the crates' own definitions.
+-- Paper 01, "Refusal numbers" (20), for hosts in C: what the load call answers, and the counts that a replay starts from.
 use Prim.Native.Nat.{ℕ}
 use mathlib.Core.List.{List}
 use Rattle.loader.specs.Plan.{PlanOf}

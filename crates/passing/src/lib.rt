@@ -144,7 +144,7 @@ pub fn trim(text: &[u8]) -> Part
     let mut to = text.len();
     while from < to {
         let b = text[to - 1];
-        if ascii::is_blank(b) {
+        if letters::is_blank(b) {
             to -= 1;
         } else {
             return Part { from, to };

@@ -45,11 +45,11 @@ true-if true never = refl
 true-if false never = absurd (never refl)
 
 -- the last of all tests on a statement, and on a plan
-code-in : (t : ℕ) (s : plans.Statement) → statementIn t s ≡ true → soundCode t (s .code) ≡ true
+pub code-in : (t : ℕ) (s : plans.Statement) → statementIn t s ≡ true → soundCode t (s .code) ≡ true
 unfolding statementIn
 code-in t s ok = true-if (soundCode t (s .code)) (λ e. false≢true (rw (e, and-false) at ok))
 
-statements-in : (p : Plan) → inRange p ≡ true → all (statementIn (length (p .triggers))) (p .statements) ≡ true
+pub statements-in : (p : Plan) → inRange p ≡ true → all (statementIn (length (p .triggers))) (p .statements) ≡ true
 unfolding inRange
 statements-in p ok = true-if (all (statementIn (length (p .triggers))) (p .statements)) (λ e. false≢true (rw (e, and-false) at ok))
 

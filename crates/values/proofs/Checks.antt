@@ -2,7 +2,7 @@
 use mathlib.Core.Path.{_≡_, refl}
 use mathlib.Core.Bool.{true, false}
 use Rattle.ascii.specs.Texts.{bytes, same}
-use Rattle.ascii.specs.Kinds.{isStart, isDigit, isName}
+use Rattle.letters.specs.Kinds.{isStart, isDigit, isName}
 use Rattle.values.specs.Values.{digit, digitsFrom, digits, number, all, triggerName, worth}
 use Rattle.values.specs.declared.Number.the-variants.{Value, Nothing}
 use Rattle.values.specs.declared.Sort.the-variants.{Timeout}

@@ -4,8 +4,8 @@ use mathlib.Core.List.{List, [], _∷_}
 use mathlib.Core.Bool.{Bool, true, false, not, _&&_, cond}
 use lib.Dec.{leb, ltb}
 use lib.ListN.{length, drop, take}
-use Rattle.ascii.specs.Texts.{bytes, between, same}
-use Rattle.ascii.specs.Kinds.{isName}
+use Rattle.ascii.specs.Texts.{bytes, same}
+use Rattle.letters.specs.Kinds.{between, isName}
 use Rattle.values.specs.declared.Number.{Number}
 use Rattle.values.specs.declared.Number.the-variants.{Value, Nothing}
 use Rattle.values.specs.declared.Sort.{Sort}

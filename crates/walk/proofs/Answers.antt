@@ -7,7 +7,7 @@ use mathlib.Core.Bool.{true, false}
 use borrow.Author.Tests.{eq-eqb, ne-eqb, lt-ltb, le-ltb}
 use lib.Dec.{eqb}
 use lib.ListN.{length, getD, drop}
-use Rattle.ascii.specs.Kinds.{isBlank, isStart, isName, isDecl, isValue, isText}
+use Rattle.letters.specs.Kinds.{isBlank, isStart, isName, isDecl, isValue, isText}
 use Rattle.walk.specs.declared.TagPart.{TagPart}
 use Rattle.walk.specs.declared.Item.{Item}
 use Rattle.walk.specs.Steps.{past, ahead, closing, remarkEnd, attributeAt, partFrom, partAt, markupAt, textAt, itemAt, prologEnd}

@@ -7,7 +7,7 @@ use mathlib.Core.Bool.{Bool, true, false, _&&_}
 use borrow.Author.Tests.{eqb-true, eqb-false}
 use lib.Dec.{eqb}
 use lib.ListN.{length, getD, drop, drop-of-length-le, List·getD-eq-default}
-use Rattle.ascii.specs.Kinds.{isBlank, isStart, isName, isValue, isText}
+use Rattle.letters.specs.Kinds.{isBlank, isStart, isName, isValue, isText}
 use Rattle.ascii.proofs.Cases.{by-cases, le-or-lt}
 use Rattle.ascii.proofs.Spans.{drop-one, downward, span-end, low-of, high-of}
 use Rattle.walk.specs.declared.TagPart.{TagPart}

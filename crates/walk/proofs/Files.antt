@@ -5,7 +5,7 @@ use mathlib.Core.Path.{_≡_, refl, sym, ap, _∙_, subst}
 use mathlib.Core.List.{List, [], _∷_}
 use mathlib.Core.Bool.{false}
 use lib.ListN.{length, drop}
-use Rattle.ascii.specs.Kinds.{isBlank, isStart, isDecl}
+use Rattle.letters.specs.Kinds.{isBlank, isStart, isDecl}
 use Rattle.ascii.proofs.Spans.{low-of}
 use Rattle.xml.specs.Shape.{Run, Remark, Comment, Misc, Prolog}
 use Rattle.walk.specs.declared.Item.{Item}

@@ -6,7 +6,7 @@ use mathlib.Core.List.{List, [], _∷_, _++_}
 use mathlib.Core.Bool.{Bool, false}
 use lib.ListN.{drop}
 use lib.Seq.{slice}
-use Rattle.ascii.specs.Kinds.{isBlank, isStart, isDigit, isName, isText}
+use Rattle.letters.specs.Kinds.{isBlank, isStart, isDigit, isName, isText}
 use Rattle.xml.specs.Shape.{Node, Items, Run, Name, Remark, Comment, Content, Element-of, Element}
 use Rattle.walk.specs.declared.Item.{Item}
 use Rattle.walk.specs.Stands.{Closing, texted}

@@ -7,8 +7,7 @@ use mathlib.Core.Bool.{Bool, true, false, true≢false}
 use borrow.Author.Tests.{eqb-false}
 use lib.ListN.{length, take, drop, length-drop, length-append}
 use lib.Seq.{slice, drop-drop, drop-append-seam, take-append-seam}
-use Rattle.ascii.specs.Texts.{among}
-use Rattle.ascii.specs.Kinds.{isBlank, isStart, isName, spanAt}
+use Rattle.letters.specs.Kinds.{among, isBlank, isStart, isName, spanAt}
 use Rattle.xml.proofs.Bytes.{blank-not-name, start-is-name, start-not-blank}
 use Rattle.xml.specs.Shape.{Attribute, Run, Name, Attributes, Spelled, Remark}
 use Rattle.walk.specs.Steps.{past, ahead, closing, remarkEnd}

@@ -6,7 +6,7 @@ use mathlib.Core.List.{List, [], _∷_, _++_, append-assoc, append-nil}
 use mathlib.Core.Bool.{true, false}
 use lib.ListN.{length, getD, drop, take}
 use lib.Seq.{slice}
-use Rattle.ascii.specs.Kinds.{isBlank}
+use Rattle.letters.specs.Kinds.{isBlank}
 use Rattle.ascii.proofs.Cases.{by-cases, le-or-lt}
 use Rattle.ascii.proofs.Spans.{downward, span-more, span-here, span-end, span-low}
 use Rattle.walk.specs.declared.Item.{Item}

@@ -6,7 +6,7 @@ use mathlib.Core.List.{List, [], _∷_}
 use mathlib.Core.Bool.{false}
 use lib.ListN.{length, drop, length-drop}
 use lib.Seq.{slice}
-use Rattle.ascii.specs.Kinds.{isBlank, isStart, isDigit, isName, isValue}
+use Rattle.letters.specs.Kinds.{isBlank, isStart, isDigit, isName, isValue}
 use Rattle.xml.specs.Shape.{Attribute, Node, node, Items, Run, Name, Attributes, Spelled, Element-of}
 use Rattle.walk.specs.declared.TagPart.{TagPart}
 use Rattle.walk.specs.declared.Body.{Body}

@@ -7,7 +7,7 @@ use mathlib.Core.Bool.{true, false, cond, true≢false}
 use mathlib.Core.Logic.{_↔_}
 use lib.ListN.{length, getD, take, drop, length-take, length-drop, drop-of-length-le}
 use lib.Seq.{slice, length-slice}
-use Rattle.ascii.specs.Kinds.{isBlank}
+use Rattle.letters.specs.Kinds.{isBlank}
 use Rattle.ascii.proofs.Cases.{by-cases}
 use Rattle.ascii.proofs.Spans.{drop-one, downward, span-more, span-here, span-end, high-of}
 use Rattle.walk.specs.declared.Part.{Part}

@@ -4,7 +4,7 @@ use native.Mathlib.Omega.{arith}
 use mathlib.Core.Path.{_≡_, refl, sym, ap, _∙_}
 use mathlib.Core.List.{List}
 use lib.ListN.{length}
-use Rattle.ascii.specs.Kinds.{isBlank}
+use Rattle.letters.specs.Kinds.{isBlank}
 use Rattle.ascii.proofs.Spans.{low-of, span-end}
 use Rattle.walk.specs.declared.Part.{Part}
 use Rattle.walk.specs.declared.TagPart.{TagPart}

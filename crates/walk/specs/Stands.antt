@@ -3,7 +3,7 @@ use Prim.Native.Nat.{ℕ, _<_, _≤_}
 use mathlib.Core.List.{List, [], _∷_, _++_}
 use lib.ListN.{length, drop}
 use Rattle.ascii.specs.Texts.{_▹_}
-use Rattle.ascii.specs.Kinds.{isBlank}
+use Rattle.letters.specs.Kinds.{isBlank}
 use Rattle.xml.specs.Shape.{Attribute, Node, Items, Run, Name, Attributes, Content, Element}
 
 -- the element x stands at i, e is behind it, and elements nest at most d deep in it

@@ -6,8 +6,7 @@ use mathlib.Core.Bool.{Bool, true, false, cond, _&&_}
 use lib.Dec.{leb, ltb}
 use lib.ListN.{length, getD, take, drop}
 use lib.Seq.{slice}
-use Rattle.ascii.specs.Texts.{among}
-use Rattle.ascii.specs.Kinds.{isBlank, isStart, isName, isDecl, isValue, isText, spanAt}
+use Rattle.letters.specs.Kinds.{among, isBlank, isStart, isName, isDecl, isValue, isText, spanAt}
 use Rattle.walk.specs.Text.{trimmed}
 use Rattle.walk.specs.declared.Part.{Part}
 use Rattle.walk.specs.declared.TagPart.{TagPart}

@@ -123,7 +123,7 @@ pub fn part_at(file: &[u8], i: usize) -> TagPart
         let e = ahead(file, a, 2);
         return TagPart::Empty(e);
     }
-    if ascii::is_start(b) {
+    if letters::is_start(b) {
         attribute_at(file, a)
     } else {
         TagPart::Broken

@@ -1,4 +1,4 @@
--- The bytes of a replay: an event is 32 bytes, and so is an answer; numbers low byte first.
+-- Paper 01, "One event" (its events and answers), as bytes of a replay: an event is 32 bytes, and so is an answer; numbers low byte first.
 use Prim.Native.Nat.{ℕ, zero, suc, _+_, _*_, _/_, _%_}
 use mathlib.Core.List.{List, [], _∷_, _++_}
 use mathlib.Core.Bool.{Bool, cond}

@@ -4,7 +4,7 @@ use mathlib.Core.Path.{_≡_, refl, sym, ap, _∙_, subst}
 use mathlib.Core.Bool.{Bool, true, false, true≢false}
 use lib.Dec.{eqb}
 use borrow.Author.Tests.{eqb-true, ne-eqb}
-use Rattle.ascii.specs.Kinds.{isBlank, isStart, isDigit, isName, isValue, isText, isDecl}
+use Rattle.letters.specs.Kinds.{isBlank, isStart, isDigit, isName, isValue, isText, isDecl}
 use Rattle.ascii.proofs.Cases.{by-cases}
 
 -- a byte of a kind is none that is not of the kind

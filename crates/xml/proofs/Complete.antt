@@ -7,7 +7,7 @@ use mathlib.Core.Bool.{Bool, true, false}
 use lib.ListN.{length}
 use lib.Dec.{eqb}
 use borrow.Author.Tests.{eq-eqb, lt-ltb}
-use Rattle.ascii.specs.Kinds.{isBlank, isStart, isDigit, isName, isValue, isText, isDecl}
+use Rattle.letters.specs.Kinds.{isBlank, isStart, isDigit, isName, isValue, isText, isDecl}
 use Rattle.xml.specs.Machine.{State, live, step, start, startLt, decl, mark, markX, markXm, declared, closing, idle, lt, tag, slash, close, closeGap, comment, Zone, before, inside, after, zoneOf, names, opens, name, gap, attr, attrGap, equal, value, valued, bang, dash, text, textDash, textEnd}
 use Rattle.xml.specs.Reads.{outer}
 use Rattle.xml.specs.Shape.{Node, Attribute, Items, Run, Name, Spelled, Attributes, Remark, Comment, Content, Element-of, Element, Misc, Prolog, WellShaped}

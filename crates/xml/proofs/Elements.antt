@@ -13,7 +13,7 @@ use Rattle.xml.specs.declared.Step.the-variants.{At}
 use Rattle.xml.specs.declared.Tag.{Tag}
 use Rattle.xml.specs.declared.Mark.{Mark}
 use Rattle.xml.specs.declared.Mark.the-variants.{Again, Close, Child, Stop}
-use Rattle.ascii.specs.Kinds.{isStart, isName, isText, spanAt}
+use Rattle.letters.specs.Kinds.{isStart, isName, isText, spanAt}
 use Rattle.ascii.proofs.Cases.{by-cases}
 use Rattle.ascii.proofs.Spans.{span-more, span-here, span-end, downward, low-of, high-of, stop-of}
 use Rattle.xml.specs.Machine.{State, inside, comment, bang, tag, close, name, valued, live, bad, at, goes}

@@ -8,7 +8,7 @@ use lib.ListN.{length, getD, drop}
 use lib.Dec.{eqb}
 use borrow.Author.Tests.{ne-eqb, eqb-true}
 use Rattle.xml.specs.declared.Step.{Step}
-use Rattle.ascii.specs.Kinds.{isBlank, isStart, isDecl, spanAt}
+use Rattle.letters.specs.Kinds.{isBlank, isStart, isDecl, spanAt}
 use Rattle.ascii.proofs.Cases.{by-cases, le-or-lt}
 use Rattle.ascii.proofs.Spans.{low-of, stop-of}
 use Rattle.xml.specs.Machine.{start, startLt, decl, mark, markX, markXm, declared, closing as closingDecl, before, after, idle, lt, comment, bang, tag, name, bad, at}

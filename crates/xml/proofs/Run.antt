@@ -4,7 +4,7 @@ use mathlib.Core.Path.{_≡_, refl, sym, ap, _∙_}
 use mathlib.Core.List.{List, _∷_}
 use mathlib.Core.Bool.{Bool, true}
 use lib.ListN.{length, getD, drop, drop-of-length-le}
-use Rattle.ascii.specs.Kinds.{spanAt}
+use Rattle.letters.specs.Kinds.{spanAt}
 use Rattle.ascii.proofs.Cases.{by-cases, le-or-lt}
 use Rattle.ascii.proofs.Spans.{drop-one, span-more, span-here, span-end, downward}
 use Rattle.xml.specs.Machine.{State, live, dead, bad, step, end, run, at}

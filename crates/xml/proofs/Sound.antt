@@ -7,8 +7,8 @@ use mathlib.Core.Bool.{Bool, true, false, _&&_, true≢false}
 use lib.ListN.{length}
 use lib.Dec.{eqb}
 use borrow.Author.Tests.{eqb-true, ltb-true}
-use Rattle.ascii.specs.Texts.{_▹_, among}
-use Rattle.ascii.specs.Kinds.{isBlank, isStart, isName, isValue, isAny, isDecl}
+use Rattle.ascii.specs.Texts.{_▹_}
+use Rattle.letters.specs.Kinds.{among, isBlank, isStart, isName, isValue, isAny, isDecl}
 use Rattle.xml.specs.Machine.{State, Next, live, dead, pick, step, start, startLt, decl, DeclPart, mark, markX, markXm, declared, closing, idle, lt, tag, slash, close, closeGap, comment, Zone, before, inside, after, zoneOf, names, opens, stays, TagPart, name, gap, attr, attrGap, equal, value, valued, ComPart, bang, dash, text, textDash, textEnd, stepLt, stepEnd, stepTag, stepDecl, stepCom, stepGap, stepIdle, stepClose}
 use Rattle.xml.specs.Shape.{Node, Attribute, Items, Run, Name, Spelled, Attributes, Remark, Comment, Content, Element-of, Element, Misc, Prolog, WellShaped}
 use Rattle.xml.proofs.Going.{go}

@@ -8,7 +8,7 @@ use lib.ListN.{length, getD}
 use borrow.Author.Tests.{eq-eqb, ne-eqb}
 use Rattle.xml.specs.declared.Step.{Step}
 use Rattle.xml.specs.declared.Step.the-variants.{At, Bad}
-use Rattle.ascii.specs.Kinds.{isAny}
+use Rattle.letters.specs.Kinds.{isAny}
 use Rattle.xml.specs.Machine.{State, idle, comment, Zone, ComPart, bang, dash, text, textDash, textEnd, live, dead, Out, bad, step, end, at, goes}
 use Rattle.xml.specs.Reads.{Past, Reads, Expects}
 use Rattle.xml.proofs.Run.{at-step, at-dead, at-end}

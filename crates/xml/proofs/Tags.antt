@@ -12,7 +12,7 @@ use Rattle.xml.specs.declared.Tag.{Tag}
 use Rattle.xml.specs.declared.Tag.the-variants.{Open, Empty, Fault}
 use Rattle.xml.specs.declared.Step.{Step}
 use Rattle.xml.specs.declared.Step.the-variants.{At, Bad}
-use Rattle.ascii.specs.Kinds.{isBlank, isStart, isName, isValue, spanAt}
+use Rattle.letters.specs.Kinds.{isBlank, isStart, isName, isValue, spanAt}
 use Rattle.ascii.proofs.Cases.{by-cases, le-or-lt}
 use Rattle.ascii.proofs.Spans.{span-more, span-here, span-end, low-of, stop-of}
 use Rattle.xml.specs.Machine.{idle, inside, slash, closeGap, gap, attr, attrGap, equal, value, valued, bad, end, at}

@@ -7,7 +7,7 @@ use mathlib.Core.List.{List, [], _∷_, _++_}
 use lib.ListN.{length, take}
 use Rattle.xml.specs.declared.Shape.{Shape}
 use Rattle.ascii.specs.Texts.{_▹_}
-use Rattle.ascii.specs.Kinds.{isBlank, isStart, isDigit, isName, isValue, isText, isDecl}
+use Rattle.letters.specs.Kinds.{isBlank, isStart, isDigit, isName, isValue, isText, isDecl}
 use Rattle.xml.specs.Machine.{State, Next, live, dead, step, start, startLt, decl, DeclPart, mark, markX, markXm, declared, closing, idle, lt, tag, slash, close, closeGap, comment, Zone, before, inside, after, zoneOf, TagPart, name, gap, attr, attrGap, equal, value, valued, ComPart, bang, dash, text, textDash, textEnd, Out, whole, bad, run, end}
 use Rattle.xml.specs.Reads.{asShape}
 use Rattle.xml.specs.Shape.{Run, Longest, Shaped}

@@ -7,8 +7,7 @@ use lib.Dec.{ltb, eqb}
 use lib.ListN.{length, drop}
 use Rattle.xml.specs.declared.Step.{Step}
 use Rattle.xml.specs.declared.Step.the-variants.{At, Bad}
-use Rattle.ascii.specs.Texts.{among}
-use Rattle.ascii.specs.Kinds.{isBlank, isStart, isName, isValue, isAny, isText, isDecl}
+use Rattle.letters.specs.Kinds.{among, isBlank, isStart, isName, isValue, isAny, isText, isDecl}
 
 -- where markup stands: before the root, in an element (its name, and the names around it, innermost first), behind the root
 pub data Zone : Type 0 where

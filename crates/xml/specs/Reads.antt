@@ -16,8 +16,7 @@ use Rattle.xml.specs.declared.Outer.{Outer}
 use Rattle.xml.specs.declared.Outer.the-variants.{End, Lt, Halt}
 use Rattle.xml.specs.declared.Shape.{Shape}
 use Rattle.xml.specs.declared.Shape.the-variants.{Whole, Broken}
-use Rattle.ascii.specs.Texts.{among}
-use Rattle.ascii.specs.Kinds.{isBlank, isStart}
+use Rattle.letters.specs.Kinds.{among, isBlank, isStart}
 use Rattle.xml.specs.Machine.{TagPart, tag, name, valued, lt, idle, close, inside, zoneOf, State, live, dead, Out, whole, bad, Zone, before, after, step, end, at, goes}
 
 -- the reader went on, and not past the end

@@ -8,8 +8,8 @@ use lib.ListN.{length, take}
 use mathlib.Core.Option.{Option, some}
 use Rattle.xml.specs.declared.Shape.{Shape}
 use Rattle.xml.specs.declared.Shape.the-variants.{Whole, TooLong, Broken}
-use Rattle.ascii.specs.Texts.{_▹_, among}
-use Rattle.ascii.specs.Kinds.{isBlank, isStart, isName, isDecl, isValue, isAny, isText}
+use Rattle.ascii.specs.Texts.{_▹_}
+use Rattle.letters.specs.Kinds.{among, isBlank, isStart, isName, isDecl, isValue, isAny, isText}
 
 -- an attribute as it is spelled
 pub record Attribute : Type 0 where

@@ -57,7 +57,7 @@ fn comment_text(file: &[u8], from: usize) -> Step
             }
             here += 1;
             dashed = true;
-        } else if ascii::is_any(b) {
+        } else if letters::is_any(b) {
             here += 1;
             dashed = false;
         } else {
@@ -127,7 +127,7 @@ fn attributes(file: &[u8], from: usize) -> Step
             return Step::At(next);
         }
         let b = file[next];
-        if ascii::is_start(b) {
+        if letters::is_start(b) {
             match attribute(file, next + 1) {
                 Step::At(end) => {
                     here = end;
@@ -239,7 +239,7 @@ fn after_lt(file: &[u8], from: usize) -> Mark
         if b == b'/' {
             return Mark::Close(from + 1);
         }
-        if ascii::is_start(b) {
+        if letters::is_start(b) {
             return Mark::Child(from);
         }
     }
@@ -382,7 +382,7 @@ fn root(file: &[u8], from: usize) -> Step
         Outer::Lt(name) => {
             if name < file.len() {
                 let b = file[name];
-                if ascii::is_start(b) {
+                if letters::is_start(b) {
                     return element(file, name, NESTED);
                 }
             }

@@ -3,8 +3,8 @@ use borrow.Author.Needs.{needs}
 use Rattle.ascii.proofs.is_decl.Statement.{statement}
 use Rattle.ascii.proofs.is_decl.Tie as tie
 use mathlib.Core.Path.{_∙_}
-use Rattle.ascii.proofs.Cases.{or-first, or-second}
-use Rattle.ascii.specs.Kinds.{isDecl}
+use Rattle.letters.proofs.Chains.{or-first, or-second}
+use Rattle.letters.specs.Kinds.{isDecl}
 use borrow.Author.Tests.{eq-eqb, ne-eqb}
 
 within-requires : tie.Need-within-requires

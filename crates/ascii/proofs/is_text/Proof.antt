@@ -2,7 +2,7 @@
 use borrow.Author.Needs.{needs}
 use Rattle.ascii.proofs.is_text.Statement.{statement}
 use Rattle.ascii.proofs.is_text.Tie as tie
-use Rattle.ascii.specs.Kinds.{isText}
+use Rattle.letters.specs.Kinds.{isText}
 use borrow.Author.Tests.{ne-eqb}
 
 is-any-requires : tie.Need-is-any-requires

@@ -2,7 +2,7 @@
 use borrow.Author.Needs.{needs}
 use Rattle.ascii.proofs.is_value.Statement.{statement}
 use Rattle.ascii.proofs.is_value.Tie as tie
-use Rattle.ascii.specs.Kinds.{isValue}
+use Rattle.letters.specs.Kinds.{isValue}
 use borrow.Author.Tests.{eq-eqb, ne-eqb}
 
 within-requires : tie.Need-within-requires

@@ -2,7 +2,7 @@
 use Rattle.ascii.proofs.value_end.Statement.{statement}
 use Rattle.ascii.proofs.value_end.Tie as tie
 use Rattle.ascii.proofs.Spans.{span-more, span-here, span-end}
-use Rattle.ascii.specs.Kinds.{spanAt, isValue}
+use Rattle.letters.specs.Kinds.{spanAt, isValue}
 use lib.ListN.{length, drop}
 use Prim.Native.Nat.{_-_}
 use mathlib.Core.Path.{_≡_, refl, sym, _∙_}

@@ -4,7 +4,7 @@ use Rattle.lexer.proofs.next_token.Statement.{statement}
 use Rattle.lexer.proofs.next_token.Tie as tie
 use native.Mathlib.Omega.{arith}
 use mathlib.Core.Path.{sym, _∙_}
-use Rattle.ascii.specs.Kinds.{isName}
+use Rattle.letters.specs.Kinds.{isName}
 use Rattle.ascii.proofs.Spans.{low-of, high-of}
 use Rattle.lexer.proofs.Tokens.{at-word, at-blank, at-left, at-right, at-other}
 

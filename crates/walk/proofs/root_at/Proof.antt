@@ -5,7 +5,7 @@ use Prim.Native.Nat.{_-_}
 use mathlib.Core.Path.{sym, _∙_}
 use native.Mathlib.Omega.{arith}
 use lib.ListN.{length}
-use Rattle.ascii.specs.Kinds.{isBlank}
+use Rattle.letters.specs.Kinds.{isBlank}
 use Rattle.ascii.proofs.Spans.{low-of}
 use Rattle.walk.specs.Steps.{miscFrom, rootAt}
 use Rattle.walk.proofs.Bounds.{item-from}

@@ -3,7 +3,7 @@ use Rattle.xml.proofs.misc.Statement.{statement}
 use Rattle.xml.proofs.misc.Tie as tie
 use Prim.Native.Nat.{_-_, _+_}
 use Rattle.ascii.proofs.Spans.{low-of, stop-of}
-use Rattle.ascii.specs.Kinds.{isBlank}
+use Rattle.letters.specs.Kinds.{isBlank}
 use Rattle.xml.proofs.Files.{outer-lt, outer-bad, outer-blanks, misc-bang}
 use Rattle.xml.proofs.Steps.{then-at, then-bad, past-at}
 use Rattle.xml.specs.Machine.{idle, at}

@@ -1,0 +1,152 @@
+// The own faults of one element of a known kind (5, 6, 7 for a value): attributes that lack, bounds, its text.
+//
+// Promises: `own_fault` is the function of the bytes that crates/element/specs/Steps.antt gives, for every input; the laws of
+// `element` say that on a well-shaped file it is the first of the element's faults there.
+// May not touch: other elements. Which elements are known, and what their parent holds already, it is told.
+ghost use mathlib.Core.Path.{_≡_};
+ghost use mathlib.Core.Bool.{false};
+ghost use lib.ListN.{getD};
+ghost use Rattle.ascii.specs.Texts.{bytes, same};
+ghost use Rattle.walk.specs.Text.{trimmed};
+ghost use Rattle.element.specs.Element.{isBad};
+ghost use Rattle.element.specs.Steps.{lacksFirst, unpaired, lacking, idsCrossed, boundsCrossed, shortText, badText, ownFault};
+use element::SLOTS;
+use schema::Kind;
+use values::Worth;
+
+const LAST_STANDARD: u32 = 2047;
+
+fn is_there(has: [bool; 12], i: usize) -> bool
+    ensures { λ r. ⌜ r ≡ getD has i false ⌝ }
+{
+    if i < SLOTS { has[i] } else { false }
+}
+
+// Is one of the first n not there?
+fn lacks_first(has: [bool; 12], n: usize) -> bool
+    ensures { λ r. ⌜ r ≡ lacksFirst n has ⌝ }
+{
+    let mut i = 0;
+    while i < n {
+        if is_there(has, i) {
+            i += 1;
+        } else {
+            return true;
+        }
+    }
+    false
+}
+
+// Has a filter one of dlc and dlc_min without the other?
+fn is_unpaired(kind: Kind, has: [bool; 12]) -> bool
+    ensures { λ r. ⌜ r ≡ unpaired kind has ⌝ }
+{
+    match kind {
+        Kind::MessagePass | Kind::MessageStop => (has[6] & !has[7]) | (has[7] & !has[6]),
+        _ => false,
+    }
+}
+
+// Does a required attribute lack, or one of a pair?
+fn lacks(kind: Kind, has: [bool; 12]) -> bool
+    ensures { λ r. ⌜ r ≡ lacking kind has ⌝ }
+{
+    let n = schema::required_of(kind);
+    if lacks_first(has, n) {
+        return true;
+    }
+    is_unpaired(kind, has)
+}
+
+// Is an identifier too large, or the lower one above the upper?
+fn ids_crossed(upper: u32, lower: u32, ext: u32) -> bool
+    ensures { λ r. ⌜ r ≡ idsCrossed upper lower ext ⌝ }
+{
+    ((ext == 0) & ((LAST_STANDARD < upper) | (LAST_STANDARD < lower))) | (upper < lower)
+}
+
+// Do the values of an element of the kind break its bounds?
+fn bounds_crossed(kind: Kind, v: [u32; 12]) -> bool
+    ensures { λ r. ⌜ r ≡ boundsCrossed kind v ⌝ }
+{
+    match kind {
+        Kind::MsgId => ids_crossed(v[3], v[4], v[5]),
+        Kind::MsgDlc => v[3] < v[4],
+        Kind::MessagePass | Kind::MessageStop => { ids_crossed(v[0], v[1], v[2]) | (v[6] < v[7]) }
+        _ => false,
+    }
+}
+
+fn is_bad(w: Worth) -> bool
+    ensures { λ r. ⌜ r ≡ isBad w ⌝ }
+{
+    match w {
+        Worth::Good(_) => false,
+        Worth::Bad => true,
+        Worth::NotCarried => false,
+    }
+}
+
+fn is_version(text: &[u8]) -> bool
+    ensures { λ r. ⌜ r ≡ same (trimmed (now (text .entry))) (bytes "2.0") ⌝ }
+{
+    let part = passing::trim(text);
+    let a = part.from;
+    let e = part.to;
+    ascii::same_text(&text[a..e], b"2.0")
+}
+
+// Is the text of the element at i the version that is carried?
+fn has_version(file: &[u8], i: usize) -> bool
+    ensures { λ r. ⌜ r ≡ same (shortText (now (file .entry)) i) (bytes "2.0") ⌝ }
+{
+    let mut spelt = [0; 32768];
+    let n = passing::gather_text(file, i, &mut spelt);
+    is_version(&spelt[..n])
+}
+
+// Has the element at i a text that its kind may not have?
+fn bad_text(file: &[u8], i: usize, kind: Kind) -> bool
+    ensures { λ r. ⌜ r ≡ badText kind (now (file .entry)) i ⌝ }
+{
+    match kind {
+        Kind::Version => {
+            let good = has_version(file, i);
+            !good
+        }
+        Kind::Channel => {
+            let w = element::channel_number(file, i);
+            is_bad(w)
+        }
+        Kind::Expression => false,
+        _ => passing::has_text(file, i),
+    }
+}
+
+// The first of 5, 6, 7 for a value that the element at i gives; 0 if it gives none.
+pub fn own_fault(file: &[u8], i: usize, kind: Kind) -> u32
+    ensures { λ r. ⌜ r ≡ ownFault kind (now (file .entry)) i ⌝ }
+{
+    let g = element::gather(file, i, kind);
+    let has = g.has;
+    let values = g.values;
+    if g.five {
+        return 5;
+    }
+    if lacks(kind, has) {
+        return 5;
+    }
+    if g.six {
+        return 6;
+    }
+    if bounds_crossed(kind, values) {
+        return 6;
+    }
+    if bad_text(file, i, kind) {
+        return 6;
+    }
+    if g.seven {
+        return 7;
+    }
+    0
+}

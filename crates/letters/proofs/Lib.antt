@@ -1,0 +1,2 @@
+-- Laws that the kinds of bytes with more than one test need.
+pub mod Chains

@@ -1,0 +1,38 @@
+-- `worth::timeout_of` meets its contract.
+use borrow.Author.Needs.{needs}
+use Rattle.worth.proofs.timeout_of.Statement.{statement}
+use Rattle.worth.proofs.timeout_of.Tie as tie
+use mathlib.Core.Path.{sym, _∙_}
+use Rattle.ascii.specs.Texts.{bytes}
+use Rattle.values.specs.Values.{worth}
+
+slice-aggregate-same-text : tie.Need-slice-aggregate-same-text
+slice-aggregate-same-text c = search needs
+
+same-text-requires : tie.Need-same-text-requires
+same-text-requires c κs = search needs
+
+returns : tie.Need-returns
+unfolding worth bytes
+returns c = rw (sym (c .before .same-text .ensures) ∙ c .if1 .taken)
+
+number-of-requires : tie.Need-number-of-requires
+number-of-requires c κs = search needs
+
+ranged-from-requires : tie.Need-ranged-from-requires
+ranged-from-requires c κs = search needs
+
+returns-2 : tie.Need-returns-2
+unfolding worth bytes
+returns-2 c = c .ranged-from .ensures ∙ rw (c .before .number-of .ensures, sym (c .before .before .before .same-text .ensures) ∙ c .before .before .if1 .left)
+
+pub timeout-of-spec : {M : Type 1} → statement M
+timeout-of-spec =
+    tie.close
+    (tie.spec
+    slice-aggregate-same-text
+    same-text-requires
+    returns
+    number-of-requires
+    ranged-from-requires
+    returns-2)
