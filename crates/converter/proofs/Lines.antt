@@ -1,0 +1,168 @@
+-- The statements of a document against their drafts: what `composed` gives, and that the plan by value has the words of the document's plan.
+use Prim.Native.Nat.{ℕ, suc, _+_, _≤_, _<_}
+use native.Mathlib.Omega.{arith}
+use native.Mathlib.Numerals.{add-one}
+use mathlib.Core.Path.{_≡_, refl, sym, ap, subst, _∙_}
+use mathlib.Core.Bool.{Bool}
+use mathlib.Core.List.{List, [], _∷_, _++_, map, map-map, append-nil, append-assoc}
+use lib.ListN.{length, take, set, length-set, length-map}
+use lib.Seq.{take-suc-set}
+use borrow.Author.Tests.{lt-ltb}
+use Rattle.xml.specs.Shape.{Node}
+use Rattle.records.specs.Records.{newest, flag, Statement, triggerWords, filterWords, actionWord, statementWords}
+use Rattle.records.specs.declared.Trigger.{Trigger}
+use Rattle.records.specs.declared.Filter.{Filter}
+use Rattle.records.specs.declared.Action.{Action}
+use Rattle.loader.specs.Plan.{row, wordsOf}
+use Rattle.expression.specs.declared.Verdict.{Verdict}
+use Rattle.expression.specs.declared.Verdict.the-variants.{Good, Broken, Unknown}
+use Rattle.expression.specs.declared.Compiled.{Compiled}
+use Rattle.expression.specs.Outcome.{refusal}
+use Rattle.expression.specs.Steps.{compiled}
+use Rattle.element.specs.Element.{Known, Fault, textOf}
+use Rattle.element.specs.Steps.{shortText}
+use Rattle.reading.specs.Reading.{is, busOf, actionOf}
+use Rattle.document.specs.Document.{gathered, known}
+use Rattle.writer.specs.declared.Line.{Line}
+use Rattle.writer.specs.declared.Lines.{Lines}
+use Rattle.writer.specs.Sheet.{lineWords, sheetWords}
+use Rattle.telling.specs.declared.Names.{Names}
+use Rattle.telling.specs.declared.Draft.{Draft}
+use Rattle.telling.specs.declared.Told.{Told}
+use Rattle.tables.specs.Tables.{kept, isIn, within, expressionsOf, lineOf, tablesOf}
+use Rattle.tables.specs.Steps.{namesAt}
+use Rattle.table_laws.proofs.Wanted.{Drafted, Each, Reads}
+use Rattle.composing.specs.declared.Composed.{Composed}
+use Rattle.converter.specs.Converter.{statementOf, planOf, wordsFor, faultOf, expressionFaults}
+use Rattle.composing.specs.Steps.{compiledAt, noLines, lineFrom, pushLine, composedBy, composedFrom, composed}
+use Rattle.converter.specs.Steps.{sheetOf}
+
+words-same : (p q : ℕ) (a : List ℕ) (b : List Action) (w v : List ℕ) → p ≡ q → a ≡ map actionWord b → w ≡ v
+    → p ∷ length a ∷ length w ∷ (a ++ w) ≡ q ∷ length b ∷ length v ∷ (map actionWord b ++ v)
+words-same p q a b w v e g h = rw (e, g, h, length-map b actionWord)
+
+-- ---- a table of 16 lines, one more at its end
+push-one : (l : Lines) (x : Line) → l .count < 16 → pushLine l x ≡ record { rows = set (l .rows) (l .count) x; count = l .count + 1 }
+unfolding pushLine
+push-one l x h = rw (lt-ltb (l .count) 16 h)
+
+one-more : (rows : List Line) (i : ℕ) (x : Line) → i < length rows → take (i + 1) (set rows i x) ≡ take i rows ++ (x ∷ [])
+one-more rows i x h = ap (λ (n : ℕ). take n (set rows i x)) (add-one i) ∙ take-suc-set rows i x h
+
+each-long : {X Y : Type 0} (r : X → Y → Type 0) (xs : List X) (ys : List Y) → Each r xs ys → length xs ≡ length ys
+each-long r xs ys Each.over = refl
+each-long r xs ys (Each.next x y us vs p e) = ap suc (each-long r us vs e)
+
+-- the answer r says what the first of the faults says, or else the lines m
+abbrev pub Composes : List Fault → Composed → Lines → Type 0
+Composes [] r m = r ≡ record { number = 0; place = 0; lines = m }
+Composes (a ∷ l) r m = (r .number ≡ a .number) × (r .place ≡ a .place) × (1 ≤ a .number)
+
+compose-one : (v : Verdict) (p : ℕ) (fs : List Fault) (r : Composed) (m : Lines) → Composes fs r m → Composes (faultOf (refusal v) p ++ fs) (composedBy v p r) m
+compose-one Good p fs r m h = h
+compose-one Broken p fs r m h = (refl, refl, omega arith)
+compose-one Unknown p fs r m h = (refl, refl, omega arith)
+
+module _ (f : List ℕ) (n : Names) (names : List (List ℕ)) (same-names : namesAt f n ≡ names) where
+  abbrev line : Draft → Line
+  line d = lineFrom d (compiledAt f n (d .text))
+
+  -- all lines pushed, whether their expressions are good or not
+  unfoldable pub pushed : List Draft → Lines → Lines
+  pushed [] l = l
+  pushed (d ∷ ds) l = pushed ds (pushLine l (line d))
+
+  pushed-all : (ds : List Draft) (l : Lines) → length (l .rows) ≡ 16 → l .count + length ds ≤ 16 → take (pushed ds l .count) (pushed ds l .rows) ≡ take (l .count) (l .rows) ++ map line ds
+  unfolding pushed
+  pushed-all [] l r h = sym (append-nil (take (l .count) (l .rows)))
+  pushed-all (d ∷ ds) l r h =
+      let m : Lines = record { rows = set (l .rows) (l .count) (line d); count = l .count + 1 } in
+      let p : pushLine l (line d) ≡ m = push-one l (line d) (omega arith) in
+      let q = pushed-all ds m (length-set (l .rows) (l .count) (line d) ∙ r) (omega arith) in
+      let o = one-more (l .rows) (l .count) (line d) (omega arith) in
+      ap (λ (z : Lines). take (pushed ds z .count) (pushed ds z .rows)) p
+      ∙ (q ∙ (ap (λ (z : List Line). z ++ map line ds) o ∙ append-assoc (take (l .count) (l .rows)) (line d ∷ []) (map line ds)))
+
+  -- ---- one statement
+  module _ (d : Draft) (k : Known) (r : Drafted f d k) where
+    code-at : compiledAt f n (d .text) ≡ compiled names (textOf (r .expression))
+    unfolding compiledAt
+    code-at = ap (λ (ns : List (List ℕ)). compiled ns (shortText f (d .text))) same-names ∙ ap (compiled names) (r .text)
+
+    text-of : lineOf k .text ≡ textOf (r .expression)
+    unfolding lineOf gathered
+    text-of = ap (gathered textOf) (r .only) ∙ append-nil (textOf (r .expression))
+
+    line-words : lineWords (line d) ≡ statementWords (statementOf (compiled names) (lineOf k))
+    unfolding lineWords statementOf lineOf
+    line-words =
+        let e : compiledAt f n (d .text) ≡ compiled names (lineOf k .text) = code-at ∙ ap (compiled names) (sym text-of) in
+        words-same (d .post) (lineOf k .post) (take (d .actions .count) (d .actions .words)) (lineOf k .actions)
+        (take (compiledAt f n (d .text) .count) (compiledAt f n (d .text) .words)) (take (compiled names (lineOf k .text) .count) (compiled names (lineOf k .text) .words))
+        (r .post) (r .actions ∙ sym (map-map actionWord actionOf (kept (isIn "ACTIONS") (within k))))
+        (ap (λ (y : Compiled). take (y .count) (y .words)) e)
+
+    abbrev faultAt : Known → List Fault
+    faultAt e = faultOf (refusal (compiled names (textOf e) .verdict)) (e .place)
+
+    fault-of : gathered faultAt (expressionsOf k) ≡ faultOf (refusal (compiledAt f n (d .text) .verdict)) (d .text)
+    unfolding gathered
+    fault-of =
+        ap (gathered faultAt) (r .only)
+        ∙ (append-nil (faultAt (r .expression))
+        ∙ (ap (λ (y : Compiled). faultOf (refusal (y .verdict)) (r .expression .place)) (sym code-at) ∙ ap (faultOf (refusal (compiledAt f n (d .text) .verdict))) (sym (r .place))))
+
+  -- ---- all statements
+  lines-words : (ds : List Draft) (ks : List Known) → Each (Drafted f) ds ks → row lineWords (map line ds) ≡ row statementWords (map (statementOf (compiled names)) (map lineOf ks))
+  unfolding row
+  lines-words ds ks Each.over = refl
+  lines-words ds ks (Each.next d k us vs r e) =
+      ap (λ (w : List ℕ). w ++ row lineWords (map line us)) (line-words d k r)
+      ∙ ap (λ (w : List ℕ). statementWords (statementOf (compiled names) (lineOf k)) ++ w) (lines-words us vs e)
+
+  abbrev faultsOf : List Known → List Fault
+  faultsOf ks = gathered (λ k. gathered (λ e. faultOf (refusal (compiled names (textOf e) .verdict)) (e .place)) (expressionsOf k)) ks
+
+  composes : (ds : List Draft) (ks : List Known) → Each (Drafted f) ds ks → (l : Lines) → Composes (faultsOf ks) (composedFrom f n ds l) (pushed ds l)
+  unfolding gathered composedFrom pushed
+  composes ds ks Each.over l = refl
+  composes ds ks (Each.next d k us vs r e) l =
+      subst (λ (z : List Fault). Composes (z ++ faultsOf vs) (composedFrom f n (d ∷ us) l) (pushed (d ∷ us) l)) (sym (fault-of d k r))
+      (compose-one (compiledAt f n (d .text) .verdict) (d .text) (faultsOf vs) (composedFrom f n us (pushLine l (line d))) (pushed us (pushLine l (line d))) (composes us vs e (pushLine l (line d))))
+
+-- ---- the plan
+plan-same : (n m : ℕ) (a b : Bool) (ts us : List Trigger) (fs gs : List Filter) (ls : List Line) (ss : List Statement)
+    → n ≡ m → a ≡ b → ts ≡ us → fs ≡ gs → length ls ≡ length ss → row lineWords ls ≡ row statementWords ss
+    → newest ∷ n ∷ flag a ∷ length ts ∷ length fs ∷ length ls ∷ (row triggerWords ts ++ (row filterWords fs ++ row lineWords ls))
+    ≡ newest ∷ m ∷ flag b ∷ length us ∷ length gs ∷ length ss ∷ (row triggerWords us ++ (row filterWords gs ++ row statementWords ss))
+plan-same n m a b ts us fs gs ls ss p q r s t u = rw (p, q, r, s, t, u)
+
+module _ (f : List ℕ) (x : Node) (t : Told) (reads : Reads f x t) where
+  abbrev pub codeOf : List ℕ → Compiled
+  codeOf = compiled (tablesOf (known x) .names)
+
+  abbrev drafts : List Draft
+  drafts = take (t .drafts .count) (t .drafts .rows)
+
+  abbrev pub allLines : Lines
+  allLines = pushed f (t .names) (tablesOf (known x) .names) (reads .names) drafts noLines
+
+  pub composed-is : Composes (expressionFaults codeOf (known x)) (composed f (t .names) (t .drafts)) allLines
+  unfolding expressionFaults composed
+  composed-is = composes f (t .names) (tablesOf (known x) .names) (reads .names) drafts (kept (is "STATEMENT") (known x)) (reads .drafts) noLines
+
+  pub sheet-is : sheetWords (sheetOf t allLines) ≡ wordsFor codeOf x
+  unfolding sheetWords sheetOf wordsOf planOf tablesOf
+  sheet-is =
+      let ks = kept (is "STATEMENT") (known x) in
+      let h = each-long (Drafted f) drafts ks (reads .drafts) in
+      let p = pushed-all f (t .names) (tablesOf (known x) .names) (reads .names) drafts noLines refl (omega (arith, h, reads .few-statements)) in
+      let ls = map (line f (t .names) (tablesOf (known x) .names) (reads .names)) drafts in
+      let ss = map (statementOf codeOf) (map lineOf ks) in
+      let k : length ls ≡ length ss = length-map drafts _ ∙ (h ∙ sym (length-map (map lineOf ks) (statementOf codeOf) ∙ length-map ks lineOf)) in
+      let w = lines-words f (t .names) (tablesOf (known x) .names) (reads .names) drafts ks (reads .drafts) in
+      plan-same (t .head .channels) (length (map busOf (kept (is "PARAMETERS") (known x)))) (t .head .all) (tablesOf (known x) .logAll)
+      (take (t .triggers .count) (t .triggers .rows)) (tablesOf (known x) .triggers) (take (t .filters .count) (t .filters .rows)) (map (λ y. y .0) (tablesOf (known x) .filters))
+      (take (allLines .count) (allLines .rows)) ss
+      (reads .channels ∙ sym (length-map (kept (is "PARAMETERS") (known x)) busOf)) (reads .log-all) (reads .triggers) (reads .filters)
+      (ap length p ∙ k) (ap (row lineWords) p ∙ w)

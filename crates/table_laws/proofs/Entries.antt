@@ -1,0 +1,113 @@
+-- The entries of an index, what is told of them part by part, and that the known elements of a document without faults are fit.
+use Prim.Native.Nat.{ℕ, _-_}
+use mathlib.Core.Path.{_≡_, refl, sym, ap, _∙_}
+use mathlib.Core.List.{List, [], _∷_, _++_, map, nil≢cons}
+use mathlib.Core.Bool.{true, false, true≢false}
+use lib.Dec.{eqb}
+use lib.ListN.{length, replicate, length-map}
+use lib.Seq.{take-at}
+use Rattle.ascii.proofs.Cases.{by-cases}
+use Rattle.xml.specs.Shape.{Node, node, Items, WellShaped}
+use Rattle.schema.specs.declared.Kind.{Kind}
+use Rattle.schema.specs.declared.Kind.the-variants.{File}
+use Rattle.schema.specs.Schema.{any, oneOf, under}
+use Rattle.schema.specs.Steps.{nameOf, kinds, kindAmong, kindUnder}
+use Rattle.schema.proofs.Laws.{kind-back, carried-name, carried-carried}
+use Rattle.element.specs.Element.{Known, _at_if_, ownFaults}
+use Rattle.element.specs.Steps.{firstNumber}
+use Rattle.element.proofs.Laws.{clean-law}
+use Rattle.document.specs.declared.Entry.{Entry}
+use Rattle.document.specs.Document.{gathered, counted, knownIn, knownAt, known, placeOf, lacks, elementFaults}
+use Rattle.document.specs.Steps.{noEntry, entryOf, indexOf}
+use Rattle.document.proofs.Few.{Clean, append-none, clean-parts, clean-first}
+use Rattle.document.proofs.Stood.{Stood, All, all-append, all-stood}
+use Rattle.telling.specs.declared.Told.{Told}
+use Rattle.telling.specs.Steps.{folded, entriesOf, noHead, noTriggers, noNames, noFilters, noDrafts, nothing, tellHead, tellTrigger, tellName, tellFilter, tellDraft, tellEntry, told}
+use Rattle.table_laws.proofs.Wanted.{Fit}
+
+pub entries-are : (ks : List Known) → entriesOf (indexOf ks) ≡ map entryOf ks
+unfolding indexOf
+entries-are ks = take-at (map entryOf ks) (replicate (382 - length ks) noEntry) (length ks) (length-map ks entryOf)
+
+-- ---- a part of what is told is the fold of that part
+module _ {A B : Type 0} (part : A → B) (whole : A → Entry → A) (step : B → Entry → B) (same-step : (a : A) (e : Entry) → part (whole a e) ≡ step (part a) e) where
+  part-folded : (a : A) (es : List Entry) → part (folded whole a es) ≡ folded step (part a) es
+  unfolding folded
+  part-folded a [] = refl
+  part-folded a (e ∷ es) = part-folded (whole a e) es ∙ ap (λ (b : B). folded step b es) (same-step a e)
+
+module _ (f : List ℕ) (ks : List Known) where
+  told-is : told f (indexOf ks) ≡ folded (tellEntry f) nothing (map entryOf ks)
+  unfolding told
+  told-is = ap (folded (tellEntry f) nothing) (entries-are ks)
+
+  told-part : {B : Type 0} (part : Told → B) (step : B → Entry → B) → ((t : Told) (e : Entry) → part (tellEntry f t e) ≡ step (part t) e) → part (told f (indexOf ks)) ≡ folded step (part nothing) (map entryOf ks)
+  told-part part step h = ap part told-is ∙ part-folded part (tellEntry f) step h nothing (map entryOf ks)
+
+  pub told-head : told f (indexOf ks) .head ≡ folded (tellHead f) noHead (map entryOf ks)
+  unfolding tellEntry
+  told-head = told-part (λ t. t .head) (tellHead f) (λ t e. refl)
+
+  pub told-triggers : told f (indexOf ks) .triggers ≡ folded (tellTrigger f) noTriggers (map entryOf ks)
+  unfolding tellEntry
+  told-triggers = told-part (λ t. t .triggers) (tellTrigger f) (λ t e. refl)
+
+  pub told-names : told f (indexOf ks) .names ≡ folded (tellName f) noNames (map entryOf ks)
+  unfolding tellEntry
+  told-names = told-part (λ t. t .names) (tellName f) (λ t e. refl)
+
+  pub told-filters : told f (indexOf ks) .filters ≡ folded (tellFilter f) noFilters (map entryOf ks)
+  unfolding tellEntry
+  told-filters = told-part (λ t. t .filters) (tellFilter f) (λ t e. refl)
+
+  pub told-drafts : told f (indexOf ks) .drafts ≡ folded (tellDraft f) noDrafts (map entryOf ks)
+  unfolding tellEntry
+  told-drafts = told-part (λ t. t .drafts) (tellDraft f) (λ t e. refl)
+
+-- ---- a document without faults
+pub faultless-parts : (x : Node) → elementFaults x ≡ [] → Clean (known x) × (any lacks (known x) ≡ false)
+unfolding elementFaults
+faultless-parts x e =
+    let a = append-none (3 at placeOf x if eqb (length (known x)) 0) (gathered ownFaults (known x) ++ 8 at placeOf x if any lacks (known x)) e in
+    let b = append-none (gathered ownFaults (known x)) (8 at placeOf x if any lacks (known x)) (a .1) in
+    (b .0, by-cases (any lacks (known x)) (λ t. absurd (nil≢cons (sym (rw t at (b .1))))) (λ t. t))
+
+abbrev Named : Known → Type 0
+Named k = nameOf (kindAmong kinds (k .name)) ≡ k .name
+
+-- an element that is known and not barred is carried
+mutual
+  unfolding knownIn knownAt firstNumber
+
+  named-in : (i : Items) (q : Kind) (earlier : List (List ℕ)) → Clean (knownIn (under (nameOf q)) earlier i) → All Named (knownIn (under (nameOf q)) earlier i)
+  named-in Items.none q earlier h = tt
+  named-in (Items.text b i) q earlier h = named-in i q earlier h
+  named-in (Items.remark i) q earlier h = named-in i q earlier h
+  named-in (Items.child x i) q earlier h =
+      let g = clean-parts (knownAt (under (nameOf q)) earlier x) (knownIn (under (nameOf q)) (counted (under (nameOf q)) earlier x) i) h in
+      all-append Named (knownAt (under (nameOf q)) earlier x) (knownIn (under (nameOf q)) (counted (under (nameOf q)) earlier x) i) (named-at x q earlier (g .0))
+      (named-in i q (counted (under (nameOf q)) earlier x) (g .1))
+
+  named-at : (x : Node) (q : Kind) (earlier : List (List ℕ)) → Clean (knownAt (under (nameOf q)) earlier x) → All Named (knownAt (under (nameOf q)) earlier x)
+  named-at (node p n l i) q earlier h =
+      let k : Known = record { parent = under (nameOf q); earlier = earlier; place = p; name = n; attributes = l; items = i } in
+      by-cases (oneOf (under (nameOf q) .carried) n)
+      (λ c.
+      let g = clean-first k (knownIn (under n) [] i) (rw c at h) in
+      let m = carried-name q n c in
+      let u : kindAmong kinds n ≡ kindUnder q n = ap (kindAmong kinds) (sym m) ∙ kind-back (kindUnder q n) (carried-carried q n c) in
+      let r : All Named (knownIn (under n) [] i) = rw m at (named-in i (kindUnder q n) [] (rw m (g .1))) in
+      rw c (ap nameOf u ∙ m, r))
+      (λ c. by-cases (oneOf (under (nameOf q) .barred) n)
+      (λ b. absurd (true≢false (sym b ∙ clean-law k (ap firstNumber ((clean-first k (knownIn (under n) [] i) (rw (c, b) at h)) .0)) .barred)))
+      (λ b. rw (c, b) tt))
+
+fit-each : (f : List ℕ) (ks : List Known) → All Named ks → All (Stood f) ks → Clean ks → All (Fit f) ks
+fit-each f [] n s c = tt
+fit-each f (k ∷ ks) n s c =
+    let g = clean-first k ks c in
+    (record { named = n .0; stood = s .0; clean = g .0 }, fit-each f ks (n .1) (s .1) (g .1))
+
+pub all-fit : (f : List ℕ) (x : Node) → WellShaped f x → elementFaults x ≡ [] → All (Fit f) (known x)
+unfolding nameOf
+all-fit f x w e = let c = faultless-parts x e in fit-each f (known x) (named-at x File [] (c .0)) (all-stood f x w) (c .0)

@@ -1,0 +1,264 @@
+// The tables of a document: what its known elements say together, or the first of its refusals up to 10.
+//
+// Promises: `read_tables` answers every file, by value; specs/Tables.antt says what the tables of a document are and which faults it has.
+// May not touch: expressions, and the words of a plan.
+ghost use mathlib.Core.Path.{_≡_};
+ghost use mathlib.Core.List.{[]};
+ghost use mathlib.Core.Bool.{false};
+ghost use Prim.Native.Nat.{_≤_, min};
+ghost use lib.ListN.{length, getD, take, drop};
+ghost use Rattle.ascii.specs.Texts.{same};
+ghost use Rattle.lexer.specs.Lex.{spans};
+ghost use Rattle.schema.specs.Schema.{any};
+ghost use Rattle.element.specs.Element.{goodOf};
+ghost use Rattle.element.specs.Steps.{is, lacksFirst};
+ghost use Rattle.telling.specs.Steps.{entriesOf};
+ghost use Rattle.tables.specs.Steps.{refused, usedFrom, nameFault, firstWhere, busFault, isBeyond, channelFault, tableFault, Tabled};
+use document::Entry;
+use document::Index;
+use schema::Kind;
+use telling::Head;
+use telling::Names;
+use telling::Told;
+use values::Worth;
+
+// A refusal's number and place; number 0 where there is none.
+pub struct Refusal {
+    pub number: u32,
+    pub place: usize,
+}
+
+pub struct Tables {
+    pub fault: Refusal,
+    pub told: Told,
+}
+
+fn no_refusal() -> Refusal
+    ensures { λ r. ⌜ r ≡ refused 0 0 ⌝ }
+{
+    Refusal {
+        number: 0,
+        place: 0,
+    }
+}
+
+fn least(a: usize, b: usize) -> usize
+    ensures { λ r. ⌜ r ≡ min a b ⌝ }
+{
+    if a < b { a } else { b }
+}
+
+// Are two parts of the file the same? Each is cut at the file's end.
+fn is_same(file: &[u8], start: usize, end: usize, from: usize, to: usize) -> bool
+    ensures { λ r. ⌜ r ≡ same (drop start (take end (now (file .entry)))) (drop from (take to (now (file .entry)))) ⌝ }
+{
+    let n = file.len();
+    let e = least(end, n);
+    let a = least(start, e);
+    let k = least(to, n);
+    let c = least(from, k);
+    ascii::same_text(&file[a..e], &file[c..k])
+}
+
+// Is the part of the file from a start up to an end one of the names?
+fn is_used(file: &[u8], start: usize, end: usize, starts: &[usize], ends: &[usize]) -> bool
+    requires { ⌜ length (now starts) ≡ length (now ends) ⌝ }
+    ensures { λ r. ⌜ r ≡ any (same (drop start (take end (now (file .entry))))) (spans (now (file .entry)) (now (starts .entry)) (now (ends .entry))) ⌝ }
+{
+    let mut i = 0;
+    while i < starts.len() {
+        let from = starts[i];
+        let to = ends[i];
+        if is_same(file, start, end, from, to) {
+            return true;
+        }
+        i += 1;
+    }
+    false
+}
+
+// 9: the first name that one before it is.
+fn used_name(file: &[u8], starts: &[usize], ends: &[usize], places: &[usize]) -> Refusal
+    requires { ⌜ (length (now starts) ≡ length (now ends)) × (length (now starts) ≡ length (now places)) ⌝ }
+    ensures { λ r. ⌜ r ≡ usedFrom [] (spans (now (file .entry)) (now (starts .entry)) (now (ends .entry))) (now (places .entry)) ⌝ }
+{
+    let mut i = 0;
+    while i < starts.len() {
+        let start = starts[i];
+        let end = ends[i];
+        let place = places[i];
+        if is_used(file, start, end, &starts[..i], &ends[..i]) {
+            return Refusal { number: 9, place };
+        }
+        i += 1;
+    }
+    no_refusal()
+}
+
+// How many names count: no more than there are.
+fn name_count(names: Names) -> usize
+    ensures { λ r. ⌜ (r ≡ length (take (names .count) (names .starts))) × (r ≡ length (take (names .count) (names .ends))) × (r ≡ length (take (names .count) (names .places))) × (r ≤ 32) ⌝ }
+{
+    least(names.count, 32)
+}
+
+fn name_fault(file: &[u8], names: Names) -> Refusal
+    ensures { λ r. ⌜ r ≡ nameFault (now (file .entry)) names ⌝ }
+{
+    let n = name_count(names);
+    let starts = names.starts;
+    let ends = names.ends;
+    let places = names.places;
+    used_name(file, &starts[..n], &ends[..n], &places[..n])
+}
+
+fn is_bus(kind: Kind) -> bool
+    ensures { λ r. ⌜ r ≡ is kind "CAN_BUS" ⌝ }
+{
+    match kind {
+        Kind::CanBus => true,
+        _ => false,
+    }
+}
+
+fn entry_count(index: Index) -> usize
+    ensures { λ r. ⌜ (r ≡ length (entriesOf index)) × (r ≤ 382) ⌝ }
+{
+    least(index.count, 382)
+}
+
+// 10 at the first CAN_BUS.
+fn first_bus(index: Index) -> Refusal
+    ensures { λ r. ⌜ r ≡ firstWhere (λ e. is (e .kind) "CAN_BUS") (entriesOf index) ⌝ }
+{
+    let n = entry_count(index);
+    let entries = index.entries;
+    let mut i = 0;
+    while i < n {
+        let entry = entries[i];
+        let kind = entry.kind;
+        if is_bus(kind) {
+            return Refusal {
+                number: 10,
+                place: entry.place,
+            };
+        }
+        i += 1;
+    }
+    no_refusal()
+}
+
+fn is_flagged(flags: [bool; 5], i: usize) -> bool
+    ensures { λ r. ⌜ r ≡ getD flags i false ⌝ }
+{
+    if i < 5 { flags[i] } else { false }
+}
+
+// Is one of the first n not there?
+fn lacks_first(flags: [bool; 5], n: usize) -> bool
+    ensures { λ r. ⌜ r ≡ lacksFirst n flags ⌝ }
+{
+    let mut at = 0;
+    while at < n {
+        if is_flagged(flags, at) {
+            at += 1;
+        } else {
+            return true;
+        }
+    }
+    false
+}
+
+// 10: as many channels as there are PARAMETERS, but not those from 0 on.
+fn bus_fault(head: Head, index: Index) -> Refusal
+    ensures { λ r. ⌜ r ≡ busFault head index ⌝ }
+{
+    let flags = head.present;
+    let n = head.channels as usize;
+    if lacks_first(flags, n) {
+        return first_bus(index);
+    }
+    no_refusal()
+}
+
+fn good_of(w: Worth) -> u32
+    ensures { λ r. ⌜ r ≡ goodOf w ⌝ }
+{
+    match w {
+        Worth::Good(v) => v,
+        Worth::Bad => 0,
+        Worth::NotCarried => 0,
+    }
+}
+
+// Does an element name a channel that is not below `channels`?
+fn is_beyond(file: &[u8], channels: u32, entry: Entry) -> bool
+    ensures { λ r. ⌜ r ≡ isBeyond (now (file .entry)) channels entry ⌝ }
+{
+    let kind = entry.kind;
+    let place = entry.place;
+    match kind {
+        Kind::Channel => {
+            let w = element::channel_number(file, place);
+            channels <= good_of(w)
+        }
+        Kind::MsgId | Kind::MsgDlc | Kind::ErrorFrame => channels
+            <= reading::number_at(file, place, kind, 2),
+        _ => false,
+    }
+}
+
+// 10 at the first element that names a channel which is not there.
+fn channel_fault(file: &[u8], head: Head, index: Index) -> Refusal
+    ensures { λ r. ⌜ r ≡ channelFault (now (file .entry)) head index ⌝ }
+{
+    let n = entry_count(index);
+    let channels = head.channels;
+    let entries = index.entries;
+    let mut i = 0;
+    while i < n {
+        let entry = entries[i];
+        if is_beyond(file, channels, entry) {
+            return Refusal {
+                number: 10,
+                place: entry.place,
+            };
+        }
+        i += 1;
+    }
+    no_refusal()
+}
+
+// The first of 9 and 10.
+fn table_fault(file: &[u8], index: Index, told: Told) -> Refusal
+    ensures { λ r. ⌜ r ≡ tableFault (now (file .entry)) index told ⌝ }
+{
+    let names = told.names;
+    let head = told.head;
+    let used = name_fault(file, names);
+    if used.number != 0 {
+        return used;
+    }
+    let gap = bus_fault(head, index);
+    if gap.number != 0 {
+        return gap;
+    }
+    channel_fault(file, head, index)
+}
+
+// The tables of a file, or the first of its refusals 1 to 10.
+pub fn read_tables(file: &[u8]) -> Tables
+    ensures { λ r. ⌜ Tabled (now (file .entry)) r ⌝ }
+{
+    let index = document::read_index(file);
+    let told = telling::tell(file, index);
+    if index.number != 0 {
+        let first = Refusal {
+            number: index.number,
+            place: index.place,
+        };
+        return Tables { fault: first, told };
+    }
+    let fault = table_fault(file, index, told);
+    Tables { fault, told }
+}

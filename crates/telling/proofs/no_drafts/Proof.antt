@@ -1,0 +1,13 @@
+-- `telling::no_drafts` meets its contract.
+use borrow.Author.Needs.{needs}
+use Rattle.telling.proofs.no_drafts.Statement.{statement}
+use Rattle.telling.proofs.no_drafts.Tie as tie
+
+no-actions-requires : tie.Need-no-actions-requires
+no-actions-requires c κs = search needs
+
+returns : tie.Need-returns
+returns c = rw (c .no-actions .ensures)
+
+pub no-drafts-spec : {M : Type 1} → statement M
+no-drafts-spec = tie.close (tie.spec no-actions-requires returns)
