@@ -1,0 +1,5 @@
+pub mod Refusals
+pub mod Accepts
+pub mod Runs
+pub mod Demands
+pub mod Table

@@ -1,0 +1,112 @@
+-- Demand 1: a refusal has the paper's number and place, and changes nothing.
+use Prim.Native.Nat.{ℕ}
+use mathlib.Core.Path.{_≡_, refl, sym, ap, _∙_, subst}
+use mathlib.Core.Logic.{_⊎_, inl, inr}
+use mathlib.Core.Option.{Option, none, some, Option·none-ne-some}
+use mathlib.Core.List.{List, _∷_}
+use mathlib.Core.Bool.{Bool, true, false, cond, false≢true}
+use lib.Dec.{leb, eqb}
+use lib.ListN.{length}
+use borrow.Author.Tests.{eqb-false}
+use Rattle.ascii.proofs.Cases.{by-cases}
+use Rattle.element.specs.Element.{Fault}
+use Rattle.loader.specs.declared.Loaded.{Loaded}
+use Rattle.loader.specs.Plan.{PlanOf, Loads}
+use Rattle.loader.specs.Plan as loader
+use Rattle.converter.specs.declared.Converted.{Converted}
+use Rattle.converter.specs.Converter.{faults, Converts}
+use Rattle.rules.specs.declared.Engine.{Engine}
+use Rattle.rules.specs.declared.Counts.{Counts}
+use Rattle.rules.specs.declared.Answer.{Answer}
+use Rattle.rules.specs.declared.Answer.the-variants as answers
+use Rattle.rules.specs.declared.Outcome.{Outcome}
+use Rattle.rules.specs.Rules.{Config, Event, frame, tick, Result}
+use Rattle.rules.specs.Calls.{late, outOfRange, full, closed, refused, step, configOf, Answers}
+use Rattle.rules.specs.Calls as calls
+use Rattle.rules.specs.History.{isRefusal}
+use Rattle.rules.proofs.Outcomes.{ProcessGives, given, fails, process-gives, not-refusal}
+use Rattle.rules.proofs.History.{refused-changes-nothing}
+use Rattle.rules.proofs.Faults.{never-25}
+use Rattle.logger_c.specs.Calls.{Loading}
+use Rattle.promises.specs.Promises.{refusalOf, Refuses, Rejects}
+
+-- ---- files
+abbrev pair : ℕ × ℕ → Option (ℕ × ℕ) → ℕ × ℕ
+pair d none = d
+pair d (some x) = x
+
+some-first : (a b c d : ℕ) → _≡_ {A = Option (ℕ × ℕ)} (some (a, b)) (some (c, d)) → a ≡ c
+some-first a b c d e = ap (λ o. pair (a, b) o .0) e
+
+some-second : (a b c d : ℕ) → _≡_ {A = Option (ℕ × ℕ)} (some (a, b)) (some (c, d)) → b ≡ d
+some-second a b c d e = ap (λ o. pair (a, b) o .1) e
+
+pub file-refused : (s d : List ℕ) (r : Converted) (out : List ℕ) → Converts s d r out → (n p : ℕ) → refusalOf r ≡ some (n, p) → Refuses s d n p × (out ≡ d)
+file-refused s d r out (Converts.shapeless a m q h e) n p g =
+    (Refuses.by-shape a h (e ∙ g), refl)
+file-refused s d r out (Converts.faulty x short w c h a l e) n p g =
+    let u = some-first (a .number) (a .place) n p g in
+    let v = some-second (a .number) (a .place) n p g in
+    let k : faults c (length d) x ≡ record { number = n; place = p } ∷ l = e ∙ ap (λ (y : Fault). y ∷ l) (λ i. record { number = u i; place = v i }) in
+    (Refuses.by-fault x c l short w h k, refl)
+file-refused s d r out (Converts.converted x short w c h e) n p g = absurd (Option·none-ne-some (n, p) g)
+
+-- ---- plans
+pub plan-refused : (ws : List ℕ) (r : Loaded) → Loads ws r → (n p : ℕ) → loader.refusalOf r ≡ some (n, p) → (n ≡ 20) × (p ≡ 0) × (PlanOf ws → ⊥)
+plan-refused ws r (Loads.takes q) n p g = absurd (Option·none-ne-some (n, p) g)
+plan-refused ws r (Loads.refuses h) n p g = (sym (some-first 20 0 n p g), sym (some-second 20 0 n p g), h)
+
+-- ---- events
+refused-number : (a : Answer) (n p : ℕ) → calls.refusalOf a ≡ some (n, p) → (a ≡ answers.Refused n) × (p ≡ 0)
+refused-number answers.Recorded n p g = absurd (Option·none-ne-some (n, p) g)
+refused-number answers.Idle n p g = absurd (Option·none-ne-some (n, p) g)
+refused-number answers.Stopped n p g = absurd (Option·none-ne-some (n, p) g)
+refused-number answers.Halted n p g = absurd (Option·none-ne-some (n, p) g)
+refused-number answers.Ticked n p g = absurd (Option·none-ne-some (n, p) g)
+refused-number (answers.Refused m) n p g = (ap answers.Refused (some-first m 0 n p g), sym (some-second m 0 n p g))
+
+abbrev numberOf : Answer → ℕ
+numberOf answers.Recorded = 0
+numberOf answers.Idle = 0
+numberOf answers.Stopped = 0
+numberOf answers.Halted = 0
+numberOf answers.Ticked = 0
+numberOf (answers.Refused m) = m
+
+abbrev Numbered : ℕ → Type 0
+Numbered n = n ≡ 21 ⊎ n ≡ 22 ⊎ n ≡ 23 ⊎ n ≡ 24
+
+-- 21 to 24
+refusal-numbered : (c : Config) (en : Engine) (k : Counts) (e : Event) → (calls.refusal c en k e ≡ 0 → ⊥) → Numbered (calls.refusal c en k e)
+refusal-numbered c en k (frame f) z =
+    by-cases (leb (c .channels) (f .channel)) (λ t. rw t (inl refl))
+    (λ t. by-cases (late (en .last) (f .time)) (λ u. rw (t, u) (inr (inl refl)))
+    (λ u. by-cases (outOfRange f) (λ v. rw (t, u, v) (inr (inr (inl refl))))
+    (λ v. by-cases (full k) (λ w. rw (t, u, v, w) (inr (inr (inr refl)))) (λ w. absurd (z (rw (t, u, v, w) refl))))))
+refusal-numbered c en k (tick u) z = by-cases (late (en .last) u) (λ t. rw t (inr (inl refl))) (λ t. absurd (z (rw t refl)))
+
+step-refusal : (c : Config) (en : Engine) (k : Counts) (e : Event) (n : ℕ) → (step c en k e .answer ≡ answers.Refused 25 → ⊥) → step c en k e .answer ≡ answers.Refused n → (n ≡ calls.refusal c en k e) × (calls.refusal c en k e ≡ 0 → ⊥)
+unfolding step
+step-refusal c en k e n never q = go (eqb (calls.refusal c en k e) 0) refl (process-gives c en e) never q
+  where
+    go : (b : Bool) → eqb (calls.refusal c en k e) 0 ≡ b → {r : Result} → ProcessGives e r → (cond b (closed en k r) (refused (calls.refusal c en k e) en k) .answer ≡ answers.Refused 25 → ⊥) → cond b (closed en k r) (refused (calls.refusal c en k e) en k) .answer ≡ answers.Refused n → (n ≡ calls.refusal c en k e) × (calls.refusal c en k e ≡ 0 → ⊥)
+    go true t (given w after) h g = absurd (false≢true (sym (not-refusal e w) ∙ ap isRefusal g))
+    go true t fails h g = absurd (h refl)
+    go false t y h g = (sym (ap numberOf g), eqb-false (calls.refusal c en k e) 0 t)
+
+pub event-refused : (ws : List ℕ) (en : Engine) (k : Counts) (e : Event) (o : Outcome) → Answers ws en k e o → (n p : ℕ) → calls.refusalOf (o .answer) ≡ some (n, p) → Rejects ws en k e n × (p ≡ 0) × (o .engine ≡ en) × (o .counts ≡ k)
+event-refused ws en k e o (Answers.by-plan q) n p g =
+    let c = configOf (q .plan) in
+    let a = refused-number (step c en k e .answer) n p g in
+    let b = step-refusal c en k e n (never-25 (q .plan) (q .in-range) en k e) (a .0) in
+    let h = refused-changes-nothing c en k e n (a .0) in
+    (Rejects.by-rules q (b .0) (subst Numbered (sym (b .0)) (refusal-numbered c en k e (b .1))), a .1, h .0, h .1)
+event-refused ws en k e o (Answers.no-plan h) n p g = (Rejects.no-plan h (sym (some-first 20 0 n p g)), sym (some-second 20 0 n p g), refl, refl)
+
+pub record-kept : (ws : List ℕ) (en : Engine) (k after : Counts) (e : Event) (o : Outcome) → Answers ws en k e o → after ≡ o .counts → (n p : ℕ) → calls.refusalOf (o .answer) ≡ some (n, p) → after ≡ k
+record-kept ws en k after e o a h n p g = h ∙ (event-refused ws en k e o a n p g) .3
+
+-- ---- C
+pub c-loaded : (ws : List ℕ) (r : ℕ) → Loading ws r → ((r ≡ 0) × PlanOf ws) ⊎ ((r ≡ 20) × (PlanOf ws → ⊥))
+c-loaded ws r (Loading.taken p) = inl (refl, p)
+c-loaded ws r (Loading.refused n) = inr (refl, n)

@@ -1,0 +1,162 @@
+-- A plan that `convert` wrote runs as the file's own configuration does.
+use Prim.Native.Nat.{ℕ}
+use mathlib.Core.Path.{_≡_, refl, sym, ap, _∙_, subst}
+use mathlib.Core.List.{List, [], _∷_, map}
+use mathlib.Core.Bool.{Bool, true, false}
+use mathlib.Core.Option.{none, Option·none-ne-some}
+use lib.ListN.{length, getD, take}
+use Rattle.xml.specs.Shape.{Node, WellShaped}
+use Rattle.xml.proofs.OneDoc.{one-doc}
+use Rattle.code.specs.declared.Value.the-variants.{Is}
+use Rattle.code.specs.Code.{Runs}
+use Rattle.code.proofs.Sound.{sound-code}
+use Rattle.records.specs.Records as plan
+use Rattle.loader.specs.declared.Loaded.{Loaded}
+use Rattle.loader.specs.Plan.{PlanOf, Loads, all, statementIn}
+use Rattle.loader.specs.Plan as loader
+use Rattle.loader.proofs.Laws.{and-left, and-right}
+use Rattle.expression.specs.declared.Compiled.{Compiled}
+use Rattle.expression.specs.Tree.{Expression, mean}
+use Rattle.expression.proofs.Ruled.{only-tree}
+use Rattle.expression.proofs.Loads.{Compiles}
+use Rattle.element.specs.Element.{Known}
+use Rattle.reading.specs.Reading.{is}
+use Rattle.document.specs.Document.{known}
+use Rattle.document.proofs.Stood.{All}
+use Rattle.tables.specs.Tables.{Line, kept, lineOf, tablesOf}
+use Rattle.converter.specs.declared.Converted.the-variants.{Words}
+use Rattle.converter.specs.Converter as plans
+use Rattle.converter.specs.Converter.{planOf, Converts}
+use Rattle.read_back.proofs.Takes.{Taken-back, loader-takes}
+use Rattle.rules.specs.Rules.{Statement, Config, Event}
+use Rattle.rules.specs.declared.Engine.{Engine}
+use Rattle.rules.specs.declared.Counts.{Counts}
+use Rattle.rules.specs.declared.Outcome.{Outcome}
+use Rattle.rules.specs.Calls.{fresh, noCounts, step, statementOf, configOf, Answers}
+use Rattle.rules.specs.History.{answersTo, after}
+use Rattle.rules.proofs.Faults.{code-in, statements-in}
+use Rattle.promises.specs.Own.{StatementOf, Statements, Says}
+use Rattle.promises.specs.Promises.{SameRun, Every}
+
+same-function : {A B : Type 0} (f g : A → B) → ((a : A) → f a ≡ g a) → f ≡ g
+same-function f g h = λ i a. h a i
+
+module _ (names : List (List ℕ)) (c : List ℕ → Compiled) where
+  abbrev run : Line → Statement
+  run l = statementOf (plans.statementOf c l)
+
+  code-is : (l : Line) (k : Compiles names (l .text) (c (l .text))) (states : List Bool) → run l .holds states ≡ Is (mean (k .tree) (λ i. getD states i false))
+  unfolding plans.statementOf
+  code-is l k states = k .value states
+
+  post-is : (l : Line) → run l .post ≡ l .post
+  unfolding plans.statementOf
+  post-is l = refl
+
+  actions-are : (l : Line) → run l .actions ≡ l .actions
+  unfolding plans.statementOf
+  actions-are l = refl
+
+  -- the code's statement is the tree's
+  statement-same : (l : Line) (s : Statement) → Compiles names (l .text) (c (l .text)) → StatementOf names l s → run l ≡ s
+  statement-same l s k o =
+      let h : run l .holds ≡ s .holds = same-function (run l .holds) (s .holds) (λ states. code-is l k states ∙ (ap (λ (e : Expression). Is (mean e (λ i. getD states i false))) (only-tree (k .reads) (o .written)) ∙ sym (o .holds states))) in
+      let p : run l .post ≡ s .post = post-is l ∙ sym (o .post) in
+      let a : run l .actions ≡ s .actions = actions-are l ∙ sym (o .actions) in
+      λ i. record { post = p i; actions = a i; holds = h i }
+
+  statement-own : (l : Line) → Compiles names (l .text) (c (l .text)) → StatementOf names l (run l)
+  statement-own l k = record { tree = k .tree; written = k .reads; post = post-is l; actions = actions-are l; holds = code-is l k }
+
+  abbrev All-compile : List Known → Type 0
+  All-compile ks = All (λ k. Compiles names (lineOf k .text) (c (lineOf k .text))) ks
+
+  statements-same : (ks : List Known) (ss : List Statement) → All-compile ks → Statements names (map lineOf ks) ss → map statementOf (map (plans.statementOf c) (map lineOf ks)) ≡ ss
+  statements-same [] ss h Statements.over = refl
+  statements-same (k ∷ ks) ss h (Statements.next l s ls rest o more) =
+      let a : run (lineOf k) ≡ s = statement-same (lineOf k) s (h .0) o in
+      let b : map statementOf (map (plans.statementOf c) (map lineOf ks)) ≡ rest = statements-same ks rest (h .1) more in
+      λ i. a i ∷ b i
+
+  statements-own : (ks : List Known) → All-compile ks → Statements names (map lineOf ks) (map statementOf (map (plans.statementOf c) (map lineOf ks)))
+  statements-own [] h = Statements.over
+  statements-own (k ∷ ks) h = Statements.next (lineOf k) (run (lineOf k)) (map lineOf ks) (map statementOf (map (plans.statementOf c) (map lineOf ks))) (statement-own (lineOf k) (h .0)) (statements-own ks (h .1))
+
+-- ---- the configuration of the plan that was written
+module _ (s ws : List ℕ) (b : Taken-back s ws) where
+  abbrev ks : List Known
+  ks = known (b .document)
+
+  abbrev ran : Config
+  ran = configOf (planOf (b .rules) (tablesOf ks))
+
+  lines-are : tablesOf ks .lines ≡ map lineOf (kept (is "STATEMENT") ks)
+  unfolding tablesOf
+  lines-are = refl
+
+  ran-statements : ran .statements ≡ map statementOf (map (plans.statementOf (b .rules)) (map lineOf (kept (is "STATEMENT") ks)))
+  unfolding planOf tablesOf
+  ran-statements = refl
+
+  own-statements : (ss : List Statement) → Statements (tablesOf ks .names) (tablesOf ks .lines) ss → ran .statements ≡ ss
+  own-statements ss h = ran-statements ∙ statements-same (tablesOf ks .names) (b .rules) (kept (is "STATEMENT") ks) ss (b .compile) (rw lines-are at h)
+
+  -- it is the document's own
+  ran-is : (c : Config) → Says (b .document) c → ran ≡ c
+  unfolding planOf
+  ran-is c o =
+      let n : ran .channels ≡ c .channels = sym (o .channels) in
+      let l : ran .logAll ≡ c .logAll = sym (o .logAll) in
+      let t : ran .triggers ≡ c .triggers = sym (o .triggers) in
+      let f : ran .filters ≡ c .filters = sym (o .filters) in
+      let g : ran .statements ≡ c .statements = own-statements (c .statements) (o .statements) in
+      λ i. record { channels = n i; logAll = l i; triggers = t i; filters = f i; statements = g i }
+
+  ran-says : Says (b .document) ran
+  unfolding planOf tablesOf
+  ran-says = record { channels = refl; logAll = refl; triggers = refl; filters = refl; statements = statements-own (tablesOf ks .names) (b .rules) (kept (is "STATEMENT") ks) (b .compile) }
+
+  read-as : (c : Config) → Says (b .document) c → (p : PlanOf ws) → configOf (p .plan) ≡ c
+  read-as c o p = ap configOf (b .reads-back p) ∙ ran-is c o
+
+  module _ (c : Config) (o : Says (b .document) c) where
+    event-same : (en : Engine) (k : Counts) (e : Event) (r : Outcome) → Answers ws en k e r → r ≡ step c en k e
+    event-same en k e r (Answers.by-plan p) = ap (λ (y : Config). step y en k e) (read-as c o p)
+    event-same en k e r (Answers.no-plan n) = absurd (n (b .is-plan))
+
+    same-run : SameRun ws c
+    same-run = record {
+      event = event-same;
+      events = λ p es. (ap (λ (y : Config). answersTo y fresh noCounts es) (read-as c o p), ap (λ (y : Config). after y fresh noCounts es) (read-as c o p));
+    }
+
+-- ---- demand 3
+module _ (s d : List ℕ) (n : ℕ) (out : List ℕ) (h : Converts s d (Words n) out) where
+  abbrev back : Taken-back s (take n out)
+  back = loader-takes s d n out h
+
+  module _ (x : Node) (w : WellShaped s x) where
+    its-document : back .document ≡ x
+    its-document = one-doc s (back .document) x (back .shaped) w
+
+    pub own-config : (c : Config) × Says x c
+    own-config = (ran s (take n out) back, subst (λ (y : Node). Says y (ran s (take n out) back)) its-document (ran-says s (take n out) back))
+
+    pub same-run-as : (c : Config) → Says x c → SameRun (take n out) c
+    same-run-as c o = same-run s (take n out) back c (subst (λ (y : Node). Says y c) (sym its-document) o)
+
+  pub plan-taken : (r : Loaded) → Loads (take n out) r → loader.refusalOf r ≡ none
+  plan-taken r l = ap loader.refusalOf (back .takes r l)
+
+-- code that the loader takes
+codes : (t : ℕ) (ss : List plan.Statement) → all (statementIn t) ss ≡ true → Every (λ y. (v : ℕ → Bool) → Runs v (y .code)) ss
+unfolding all Every
+codes t [] h = tt
+codes t (y ∷ ss) h =
+    let a = and-left (statementIn t y) (all (statementIn t) ss) h in
+    let b = and-right (statementIn t y) (all (statementIn t) ss) h in
+    (sound-code t (y .code) (code-in t y a), codes t ss b)
+
+pub safe-codes : (ws : List ℕ) (r : Loaded) → Loads ws r → loader.refusalOf r ≡ none → (p : PlanOf ws) × Every (λ y. (v : ℕ → Bool) → Runs v (y .code)) (p .plan .statements)
+safe-codes ws r (Loads.takes p) e = (p, codes (length (p .plan .triggers)) (p .plan .statements) (statements-in (p .plan) (p .in-range)))
+safe-codes ws r (Loads.refuses h) e = absurd (Option·none-ne-some (20, 0) (sym e))
