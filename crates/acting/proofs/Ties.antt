@@ -10,7 +10,7 @@ use lib.ListN.{length, getD, drop, replicate, length-append}
 use lib.Seq.{set-at, append-snoc, drop-cons}
 use Rattle.code.specs.declared.Value.{Value}
 use Rattle.code.specs.declared.Value.the-variants.{Is, Fault}
-use Rattle.code.proofs.Sound.{value-ext}
+use Rattle.code_laws.proofs.Sound.{value-ext}
 use Rattle.records.specs.Records as plans
 use Rattle.rules.specs.declared.Logging.{Logging}
 use Rattle.rules.specs.Rules.{Statement, andThen, evaluated, actions}

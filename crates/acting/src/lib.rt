@@ -66,7 +66,7 @@ pub fn evaluate_all(
             return r;
         };
         r.truth[i] = v;
-        at += records::statement_size(rest);
+        at += record_sizes::statement_size(rest);
         i += 1;
     }
     r
@@ -123,7 +123,7 @@ pub fn act_risen(
     while i < n {
         let rest = rows::tail(statements, at);
         l = act_statement(rest, u, truth[i] & !was[i], l);
-        at += records::statement_size(rest);
+        at += record_sizes::statement_size(rest);
         i += 1;
     }
     l

@@ -1,42 +1,15 @@
-// Which events an engine accepts, and what it begins with.
+// Which events an engine accepts.
 //
-// Promises: `fresh_engine` and `no_counts` are the paper's fresh state; `refuse` is a refused call, the others give the
-// refusals 21 to 24 in their order.
+// Promises: `refuse` is a refused call, the others give the refusals 21 to 24 in their order.
 // May not touch: plan words, the logging state of a running engine.
 ghost use mathlib.Core.Path.{_≡_};
-ghost use Rattle.rules.specs.Calls.{fresh, noCounts, late, outOfRange, full, frameRefusal, refused};
+ghost use Rattle.rules.specs.Calls.{late, outOfRange, full, frameRefusal, refused};
 use records::DLC_TOP;
 use rules::Answer;
 use rules::Counts;
 use rules::Engine;
-use rules::Firing;
 use rules::Frame;
-use rules::Logging;
 use rules::Outcome;
-
-pub fn fresh_engine() -> Engine
-    ensures { λ r. ⌜ r ≡ fresh ⌝ }
-{
-    let never = Firing { ever: false, at: 0 };
-    Engine {
-        logging: Logging::Off,
-        fired: [never; 32],
-        truth: [false; 16],
-        started: false,
-        last: 0,
-    }
-}
-
-pub fn no_counts() -> Counts
-    ensures { λ r. ⌜ r ≡ noCounts ⌝ }
-{
-    Counts {
-        recorded: 0,
-        idle: 0,
-        stopped: 0,
-        halted: 0,
-    }
-}
 
 // A time before the last accepted one, or too far away.
 pub fn is_late(last: u64, u: u64) -> bool
@@ -48,7 +21,7 @@ pub fn is_late(last: u64, u: u64) -> bool
 fn is_out_of_range(f: Frame) -> bool
     ensures { λ r. ⌜ r ≡ outOfRange f ⌝ }
 {
-    let top = records::id_top(f.ext);
+    let top = record_sizes::id_top(f.ext);
     !f.error & ((top < f.id) | (DLC_TOP < f.dlc))
 }
 

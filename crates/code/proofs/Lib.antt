@@ -1,6 +1,4 @@
--- `Heights` and `Sound` are what other crates may cite; the others are laws that the proofs of the functions share.
-mod Words
-pub mod Heights
-pub mod Sound
+-- Laws that the proofs of the functions share; what other crates may cite is in the crate code_laws, which uses Words.
+pub mod Words
 mod Levels
 mod Stacks

@@ -1,6 +1,6 @@
 // Postfix code of expressions: what the loader asks of it, and how the engine runs it.
 // It promises: `code_ok` answers the loader's rule on code, and `evaluate` what the stack machine gives, both for any words;
-// code that is ok never faults, whatever the states (the theorem `sound-code`).
+// code that is ok never faults, whatever the states (the theorem `sound-code` of code_laws).
 // It may not touch what it is lent, and knows nothing of plans, events and files.
 ghost use mathlib.Core.Path.{_≡_};
 ghost use Prim.Native.Nat.{ℕ, _≤_};

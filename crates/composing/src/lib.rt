@@ -47,7 +47,7 @@ fn compile_text(text: &[u8], file: &[u8], names: Names) -> Compiled
     let n = name_count(names);
     let starts = names.starts;
     let ends = names.ends;
-    let part = passing::trim(text);
+    let part = trimming::trim(text);
     let a = part.from;
     let e = part.to;
     expression::compile(&text[a..e], file, &starts[..n], &ends[..n])
@@ -58,7 +58,7 @@ fn compile_at(file: &[u8], names: Names, place: usize) -> Compiled
     ensures { λ r. ⌜ r ≡ compiledAt (now (file .entry)) names place ⌝ }
 {
     let mut text = [0; 32768];
-    let n = passing::gather_text(file, place, &mut text);
+    let n = gathering::gather_text(file, place, &mut text);
     compile_text(&text[..n], file, names)
 }
 

@@ -12,7 +12,7 @@ use Rattle.xml.specs.Shape.{Node}
 use Rattle.schema.specs.Schema.{any}
 use Rattle.element.specs.Element.{Known, Fault, _at_if_, ownFaults}
 use Rattle.element.specs.Steps.{firstNumber}
-use Rattle.element.proofs.Laws.{no-fault}
+use Rattle.element_laws.proofs.Laws.{no-fault}
 use Rattle.reading.specs.Reading.{is}
 use Rattle.document.specs.Document.{gathered, known, placeOf, lacks, elementFaults}
 use Rattle.tables.specs.Tables.{kept, isIn, nameOf, usedNames, gap, channelNamed, channelsIn, tableFaults}

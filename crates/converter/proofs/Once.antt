@@ -8,8 +8,8 @@ use lib.ListN.{length, drop}
 use Rattle.xml.specs.declared.Shape.{Shape}
 use Rattle.xml.specs.declared.Shape.the-variants.{Whole, TooLong, Broken}
 use Rattle.xml.specs.Shape.{Node, WellShaped, Shaped, refusalOf}
-use Rattle.xml.proofs.OneDoc.{one-doc}
-use Rattle.xml.proofs.OneAnswer.{one-answer}
+use Rattle.xml_laws.proofs.OneDoc.{one-doc}
+use Rattle.xml_laws.proofs.OneAnswer.{one-answer}
 use Rattle.expression.specs.declared.Compiled.{Compiled}
 use Rattle.expression.proofs.Ruled.{gives-once}
 use Rattle.element.specs.Element.{Fault}

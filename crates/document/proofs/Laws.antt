@@ -14,11 +14,11 @@ use Rattle.ascii.proofs.Cases.{by-cases}
 use Rattle.xml.specs.declared.Shape.{Shape}
 use Rattle.xml.specs.declared.Shape.the-variants.{Whole, TooLong, Broken}
 use Rattle.xml.specs.Shape.{Attribute, Node, node, Items, WellShaped, Shaped, refusalOf}
-use Rattle.xml.proofs.OneDoc.{one-doc}
-use Rattle.xml.proofs.OneAnswer.{one-answer}
+use Rattle.xml_laws.proofs.OneDoc.{one-doc}
+use Rattle.xml_laws.proofs.OneAnswer.{one-answer}
 use Rattle.walk.specs.Steps as walk
 use Rattle.walk.specs.Stands.{ElementAt}
-use Rattle.walk.proofs.Laws.{root-law, element-law}
+use Rattle.walk_laws.proofs.Laws.{root-law, element-law}
 use Rattle.schema.specs.declared.Kind.{Kind}
 use Rattle.schema.specs.declared.Kind.the-variants.{File, Unknown}
 use Rattle.schema.specs.Schema.{any, oneOf, under, parentIn, parents}
@@ -27,7 +27,7 @@ use Rattle.schema.proofs.Every.{everywhere}
 use Rattle.schema.proofs.Laws.{carried-carried, unknown-kind}
 use Rattle.element.specs.Element.{Known, Fault, _at_if_, ownFaults}
 use Rattle.element.specs.Steps.{firstNumber}
-use Rattle.element.proofs.Laws.{fault-place, no-fault}
+use Rattle.element_laws.proofs.Laws.{fault-place, no-fault}
 use Rattle.document.specs.declared.Index.{Index}
 use Rattle.document.specs.declared.Found.{Found}
 use Rattle.document.specs.Document.{gathered, known, knownIn, knownAt, lacks, elementFaults}

@@ -12,7 +12,7 @@ use Rattle.walk.specs.declared.Item.{Item}
 use Rattle.walk.specs.declared.Body.{Body}
 use Rattle.walk.specs.Steps as walk
 use Rattle.walk.specs.Stands.{ElementAt, ContentAt}
-use Rattle.walk.proofs.Laws.{root-law, element-law, element-deep, ItemTold, item-law, BodyTold, content-law}
+use Rattle.walk_laws.proofs.Laws.{root-law, element-law, element-deep, ItemTold, item-law, BodyTold, content-law}
 use Rattle.schema.specs.Schema.{Parent, oneOf, under}
 use Rattle.element.specs.Element.{Known}
 use Rattle.document.specs.Document.{counted, knownIn, knownAt, known}

@@ -15,7 +15,7 @@ use Rattle.walk.specs.declared.Body.{Body}
 use Rattle.walk.specs.Steps as walk
 use Rattle.walk.specs.Stands.{ElementAt, ContentAt, texted}
 use Rattle.walk.proofs.Bounds.{item-over}
-use Rattle.walk.proofs.Laws.{element-law, element-deep, ItemTold, item-law, BodyTold, content-law, skip-law}
+use Rattle.walk_laws.proofs.Laws.{element-law, element-deep, ItemTold, item-law, BodyTold, content-law, skip-law}
 use Rattle.schema.specs.declared.Kind.{Kind}
 use Rattle.schema.specs.declared.Kind.the-variants.{Unknown}
 use Rattle.schema.specs.Schema.{Parent, any, oneOf, under}
@@ -24,7 +24,7 @@ use Rattle.schema.proofs.Every.{everywhere}
 use Rattle.schema.proofs.Laws.{kind-back, carried-name, carried-carried, barred-kind, unknown-kind, barred-not-carried}
 use Rattle.element.specs.Element.{Known, ownFaults, tooMany}
 use Rattle.element.specs.Steps.{firstNumber}
-use Rattle.element.proofs.Laws.{fault-law, over-law, barred-law}
+use Rattle.element_laws.proofs.Laws.{fault-law, over-law, barred-law}
 use Rattle.document.specs.declared.Index.{Index}
 use Rattle.document.specs.declared.Found.{Found}
 use Rattle.document.specs.declared.Seen.{Seen}

@@ -12,7 +12,7 @@ use Rattle.walk.specs.declared.Part.{Part}
 use Rattle.walk.specs.declared.TagPart.{TagPart}
 use Rattle.walk.specs.Steps as walk
 use Rattle.walk.proofs.Bounds.{PartFrom, part-bounds, part-from, part-over}
-use Rattle.walk.proofs.Slices.{slice-part}
+use Rattle.walk_laws.proofs.Slices.{slice-part}
 use Rattle.walk.proofs.Turns.{Turn, start, next, done, over}
 use Rattle.schema.specs.declared.Kind.{Kind}
 use Rattle.schema.specs.declared.Asked.{Asked}

@@ -37,13 +37,13 @@ pub fn replay(words: &[u32], events: &[u8], counts: Counts, out: &mut [u8]) -> u
 {
     let n = fewer_of(events.len() / 32, out.len() / 32);
     let loaded = loader::load(words);
-    let mut en = admission::fresh_engine();
+    let mut en = fresh::fresh_engine();
     let mut k = counts;
     let mut at = 0;
     let mut i = 0;
     while i < n {
         let o = step_loaded(words, loaded, en, k, &events[at..]);
-        wire::put_answer(&mut out[at..], o);
+        answer_bytes::put_answer(&mut out[at..], o);
         let engine = o.engine;
         let after = o.counts;
         en = engine;

@@ -79,7 +79,7 @@ fn narrow(x: u64) -> u32 {
 }
 
 fn begin(recorded: u32, idle: u32, stopped: u32, halted: u32) -> Outcome {
-    let engine = admission::fresh_engine();
+    let engine = fresh::fresh_engine();
     let counts = Counts {
         recorded,
         idle,

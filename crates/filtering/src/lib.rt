@@ -44,7 +44,7 @@ fn some_hit(filters: &[u32], count: u32, pass: bool, any: bool, f: Frame) -> boo
         if on & (any | like) {
             return true;
         }
-        at += records::filter_size(rest);
+        at += record_sizes::filter_size(rest);
         i += 1;
     }
     false

@@ -26,8 +26,8 @@ fn fire_one(t: Trigger, first: bool, ticks: bool, f: Frame, i: usize, s: Fired) 
     let cause = t.cause;
     let timeout = t.timeout;
     let fires = matching::trigger_fires(cause, first, ticks, f);
-    let on = matching::trigger_lasts(timeout, l, f.time);
-    let now_last = matching::firing_after(fires, l, f.time);
+    let on = lasting::trigger_lasts(timeout, l, f.time);
+    let now_last = lasting::firing_after(fires, l, f.time);
     let mut next = s;
     next.last[i] = now_last;
     next.states[i] = fires | on;
@@ -56,7 +56,7 @@ pub fn fire_all(
         let rest = rows::tail(triggers, at);
         let t = records::trigger_at(rest);
         s = fire_one(t, first, ticks, f, i, s);
-        at += records::trigger_size(rest);
+        at += record_sizes::trigger_size(rest);
         i += 1;
     }
     s

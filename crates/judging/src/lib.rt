@@ -90,7 +90,7 @@ fn is_bad(w: Worth) -> bool
 fn is_version(text: &[u8]) -> bool
     ensures { λ r. ⌜ r ≡ same (trimmed (now (text .entry))) (bytes "2.0") ⌝ }
 {
-    let part = passing::trim(text);
+    let part = trimming::trim(text);
     let a = part.from;
     let e = part.to;
     ascii::same_text(&text[a..e], b"2.0")
@@ -101,7 +101,7 @@ fn has_version(file: &[u8], i: usize) -> bool
     ensures { λ r. ⌜ r ≡ same (shortText (now (file .entry)) i) (bytes "2.0") ⌝ }
 {
     let mut spelt = [0; 32768];
-    let n = passing::gather_text(file, i, &mut spelt);
+    let n = gathering::gather_text(file, i, &mut spelt);
     is_version(&spelt[..n])
 }
 
@@ -115,11 +115,11 @@ fn bad_text(file: &[u8], i: usize, kind: Kind) -> bool
             !good
         }
         Kind::Channel => {
-            let w = element::channel_number(file, i);
+            let w = picking::channel_number(file, i);
             is_bad(w)
         }
         Kind::Expression => false,
-        _ => passing::has_text(file, i),
+        _ => gathering::has_text(file, i),
     }
 }
 

@@ -92,7 +92,7 @@ fn next_token(text: &[u8], at: usize, file: &[u8], starts: &[usize], ends: &[usi
 {
     let b = text[at];
     if letters::is_name(b) {
-        let end = ascii::name_end(text, at);
+        let end = runs::name_end(text, at);
         return Step::Next(word_number(&text[at..end], file, starts, ends), end);
     }
     if letters::is_blank(b) {

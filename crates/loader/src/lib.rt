@@ -75,7 +75,7 @@ fn cause_in(cause: Cause, n: u32) -> bool
             lower,
             upper,
         } => {
-            let top = records::id_top(ext);
+            let top = record_sizes::id_top(ext);
             (channel < n) & (lower <= upper) & (upper <= top)
         }
         Cause::Length {
@@ -92,7 +92,7 @@ fn trigger_ok(rec: &[u32], n: u32) -> bool
     ensures { λ r. ⌜ r ≡ triggerOk n (now (rec .entry)) ⌝ }
 {
     let t = records::trigger_at(rec);
-    let spelt = records::trigger_words(t);
+    let spelt = record_words::trigger_words(t);
     let same = starts_with(rec, &spelt);
     let timeout = t.timeout;
     let cause = t.cause;
@@ -105,7 +105,7 @@ fn trigger_ok(rec: &[u32], n: u32) -> bool
 fn filter_in(x: Filter, masks: u32) -> bool
     ensures { λ r. ⌜ r ≡ filterIn masks x ⌝ }
 {
-    let top = records::id_top(x.ext);
+    let top = record_sizes::id_top(x.ext);
     (1 <= x.mask)
         & (x.mask < masks)
         & (x.lower <= x.upper)
@@ -118,7 +118,7 @@ fn filter_ok(rec: &[u32], masks: u32) -> bool
     ensures { λ r. ⌜ r ≡ filterOk masks (now (rec .entry)) ⌝ }
 {
     let x = records::filter_at(rec);
-    let spelt = records::filter_words(x);
+    let spelt = record_words::filter_words(x);
     let same = starts_with(rec, &spelt);
     let fine = filter_in(x, masks);
     same & fine
@@ -166,9 +166,9 @@ fn record_size(section: Section, rec: &[u32]) -> usize
     ensures { λ r. ⌜ (r ≡ sizeOf section (now (rec .entry))) × (r < 8589934600) ⌝ }
 {
     match section {
-        Section::Triggers(_) => records::trigger_size(rec),
-        Section::Filters(_) => records::filter_size(rec),
-        Section::Statements(_) => records::statement_size(rec),
+        Section::Triggers(_) => record_sizes::trigger_size(rec),
+        Section::Filters(_) => record_sizes::filter_size(rec),
+        Section::Statements(_) => record_sizes::statement_size(rec),
     }
 }
 

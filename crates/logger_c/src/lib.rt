@@ -1,4 +1,4 @@
-// The logger for C: loads a plan and replays events against it. The header is steamfiddle_logger.h.
+// The logger for C: loads a plan and replays events against it. The header is include/steamfiddle.h.
 //
 // Promises: `steamfiddle_load` tells a plan from any other words; `steamfiddle_replay` answers any bytes as the rules of one event say, event by
 // event. Neither keeps anything between calls.

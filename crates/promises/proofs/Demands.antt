@@ -1,5 +1,5 @@
 -- The demands hold.
-use Rattle.xml.proofs.OneDoc.{one-doc}
+use Rattle.xml_laws.proofs.OneDoc.{one-doc}
 use Rattle.loader.proofs.Exact as loader
 use Rattle.converter.proofs.Once.{one-converted}
 use Rattle.rules.proofs.History.{answers-once, count-from-fresh}

@@ -6,10 +6,10 @@ use mathlib.Core.Bool.{Bool, true, false}
 use mathlib.Core.Option.{none, Option·none-ne-some}
 use lib.ListN.{length, getD, take}
 use Rattle.xml.specs.Shape.{Node, WellShaped}
-use Rattle.xml.proofs.OneDoc.{one-doc}
+use Rattle.xml_laws.proofs.OneDoc.{one-doc}
 use Rattle.code.specs.declared.Value.the-variants.{Is}
 use Rattle.code.specs.Code.{Runs}
-use Rattle.code.proofs.Sound.{sound-code}
+use Rattle.code_laws.proofs.Sound.{sound-code}
 use Rattle.records.specs.Records as plan
 use Rattle.loader.specs.declared.Loaded.{Loaded}
 use Rattle.loader.specs.Plan.{PlanOf, Loads, all, statementIn}
@@ -18,7 +18,7 @@ use Rattle.loader.proofs.Laws.{and-left, and-right}
 use Rattle.expression.specs.declared.Compiled.{Compiled}
 use Rattle.expression.specs.Tree.{Expression, mean}
 use Rattle.expression.proofs.Ruled.{only-tree}
-use Rattle.expression.proofs.Loads.{Compiles}
+use Rattle.expression_laws.proofs.Loads.{Compiles}
 use Rattle.element.specs.Element.{Known}
 use Rattle.reading.specs.Reading.{is}
 use Rattle.document.specs.Document.{known}

@@ -18,7 +18,7 @@ use Rattle.records.specs.Records.{dlcTop, timeoutIn, idTop, triggerIn, filterIn
 use Rattle.records.specs.declared.Timeout.the-variants.{Forever, Ms}
 use Rattle.loader.proofs.Laws.{and-left, and-right}
 use Rattle.schema.specs.Schema.{Rule, _to_, any, elements, rulesIn, rulesOf, parentIn, parents}
-use Rattle.element.proofs.Gathers.{neither}
+use Rattle.element_laws.proofs.Gathers.{neither}
 use Rattle.element.specs.Element.{Known, goodOf, worthBy, spelled, valueOf, given, has, repeated, misfit, crossed}
 use Rattle.reading.specs.Reading.{is, triggerOf, filterOf}
 use Rattle.tables.specs.Tables.{isIn, sumFrom, channelNamed}

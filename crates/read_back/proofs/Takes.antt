@@ -25,13 +25,13 @@ use Rattle.expression.specs.declared.Compiled.{Compiled}
 use Rattle.expression.specs.Outcome.{Gives, refusal}
 use Rattle.expression.specs.Steps.{compiled}
 use Rattle.expression.proofs.Ruled.{gives, gives-once, fits}
-use Rattle.expression.proofs.Loads.{Compiles, good}
+use Rattle.expression_laws.proofs.Loads.{Compiles, good}
 use Rattle.schema.specs.declared.Times.the-variants.{OneTo}
 use Rattle.schema.specs.Schema.{any, oneOf, under, parentIn, parents}
 use Rattle.element.specs.Element.{Known, Fault, _at_if_, ownFaults, goodOf, channelOf, valueOf, has, textOf}
 use Rattle.element.specs.Steps.{firstNumber}
-use Rattle.element.proofs.Laws.{Clean, clean-law}
-use Rattle.element.proofs.Gathers.{neither}
+use Rattle.element_laws.proofs.Laws.{Clean, clean-law}
+use Rattle.element_laws.proofs.Gathers.{neither}
 use Rattle.reading.specs.Reading.{is, busOf, triggerOf, filterOf, actionOf}
 use Rattle.document.specs.Document.{gathered, known, held, lacks, unmet, elementFaults}
 use Rattle.document.proofs.Few.{append-none}
@@ -314,7 +314,7 @@ pub record Taken-back (s ws : List ℕ) : Type 0 where
   pub takes : (r : Loaded) → Loads ws r → r ≡ Taken (layoutOf (planOf rules (tablesOf (known document))))
   pub reads-back : (p : PlanOf ws) → p .plan ≡ planOf rules (tablesOf (known document))
 
-no-faults : (c : List ℕ → Compiled) (room : ℕ) (x : Node) → faults c room x ≡ [] → (elementFaults x ≡ []) × (tableFaults (known x) ≡ []) × (expressionFaults c (known x) ≡ [])
+pub no-faults : (c : List ℕ → Compiled) (room : ℕ) (x : Node) → faults c room x ≡ [] → (elementFaults x ≡ []) × (tableFaults (known x) ≡ []) × (expressionFaults c (known x) ≡ [])
 unfolding faults
 no-faults c room x e =
     let last = 13 at length (wordsFor c x) if ltb room (length (wordsFor c x)) in

@@ -15,7 +15,7 @@ use Rattle.schema.specs.Schema.{elements, rulesIn}
 use Rattle.schema.specs.Steps.{nameOf, askedFrom, askedOf}
 use Rattle.element.specs.Element.{Known, misfit, valueOf, has}
 use Rattle.element.specs.Steps.{nothing, gatheredList, gathered}
-use Rattle.element.proofs.Laws.{gather-law, value-law, has-law}
+use Rattle.element_laws.proofs.Laws.{gather-law, value-law, has-law}
 use Rattle.reading.specs.Reading.{triggerOf, filterOf}
 use Rattle.reading.specs.Steps.{triggerFrom, filterFrom}
 

@@ -1,12 +1,10 @@
-// One record of a plan: what a trigger, a filter or an action says, its words, and how it is read off them.
+// One record of a plan: what a trigger, a filter or an action says, and how it is read off its words.
 //
 // Promises: each function answers by the definition of its record, for every input.
 // May not touch: the plan as a whole. Which records make a plan is the loader's.
 ghost use mathlib.Core.Path.{_≡_};
-ghost use Prim.Native.Nat.{_<_};
 ghost use lib.ListN.{getD};
-ghost use Rattle.records.specs.Records.{flag, timeoutWord, triggerWords, effectWord, filterWords, idTop};
-ghost use Rattle.records.specs.Readers.{timeoutAt, triggerAt, effectAt, filterAt, actionAt, triggerSize, filterSize, statementSize};
+ghost use Rattle.records.specs.Readers.{timeoutAt, triggerAt, effectAt, filterAt, actionAt};
 
 // The first word of every plan, and the largest length code.
 pub const NEWEST: u32 = 1;
@@ -155,96 +153,4 @@ pub fn action_at(w: u32) -> Action
         2 => Action::StopLog,
         _ => Action::StopLogCompletely,
     }
-}
-
-fn flag_word(b: bool) -> u32
-    ensures { λ r. ⌜ r ≡ flag b ⌝ }
-{
-    if b { 1 } else { 0 }
-}
-
-fn timeout_word(t: Timeout) -> u32
-    ensures { λ r. ⌜ r ≡ timeoutWord t ⌝ }
-{
-    match t {
-        Timeout::Forever => 4294967295,
-        Timeout::Ms(ms) => ms,
-    }
-}
-
-// The words of a trigger.
-pub fn trigger_words(t: Trigger) -> [u32; 6]
-    ensures { λ r. ⌜ r ≡ triggerWords t ⌝ }
-{
-    let timeout = t.timeout;
-    let cause = t.cause;
-    let span = timeout_word(timeout);
-    match cause {
-        Cause::Id {
-            channel,
-            ext,
-            lower,
-            upper,
-        } => [1, channel, span, flag_word(ext), lower, upper],
-        Cause::Length {
-            channel,
-            lower,
-            upper,
-        } => [2, channel, span, 0, lower, upper],
-        Cause::Error(channel) => [3, channel, span, 0, 0, 0],
-        Cause::Startup => [4, 0, span, 0, 0, 0],
-    }
-}
-
-fn effect_word(e: Effect) -> u32
-    ensures { λ r. ⌜ r ≡ effectWord e ⌝ }
-{
-    match e {
-        Effect::Pass => 1,
-        Effect::Stop => 2,
-    }
-}
-
-// The words of a filter.
-pub fn filter_words(x: Filter) -> [u32; 7]
-    ensures { λ r. ⌜ r ≡ filterWords x ⌝ }
-{
-    let effect = x.effect;
-    let kind = effect_word(effect);
-    let ext = flag_word(x.ext);
-    [kind, x.mask, ext, x.lower, x.upper, x.shortest, x.longest]
-}
-
-// The number of words of the record that the words start with, by its kind.
-pub fn trigger_size(rec: &[u32]) -> usize
-    ensures { λ r. ⌜ r ≡ triggerSize (now (rec .entry)) ⌝ }
-{
-    6
-}
-
-pub fn filter_size(rec: &[u32]) -> usize
-    ensures { λ r. ⌜ r ≡ filterSize (now (rec .entry)) ⌝ }
-{
-    7
-}
-
-fn wide(x: u32) -> usize
-    ensures { λ r. ⌜ (r ≡ x) × (r < 4294967296) ⌝ }
-{
-    x as usize
-}
-
-pub fn statement_size(rec: &[u32]) -> usize
-    ensures { λ r. ⌜ (r ≡ statementSize (now (rec .entry))) × (r < 8589934600) ⌝ }
-{
-    let actions = wide(word(rec, 1));
-    let words = wide(word(rec, 2));
-    3 + actions + words
-}
-
-// The largest identifier: 11 bits, or 29 where it is extended.
-pub fn id_top(ext: bool) -> u32
-    ensures { λ r. ⌜ r ≡ idTop ext ⌝ }
-{
-    if ext { 536870911 } else { 2047 }
 }

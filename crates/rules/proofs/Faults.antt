@@ -8,7 +8,7 @@ use native.Mathlib.Omega.{arith}
 use lib.ListN.{length}
 use lib.Dec.{leb, eqb}
 use Rattle.code.specs.Code.{soundCode}
-use Rattle.code.proofs.Sound.{value-of-sound}
+use Rattle.code_laws.proofs.Sound.{value-of-sound}
 use Rattle.records.specs.Records as plans
 use Rattle.loader.specs.Plan.{Plan, statementIn, all, inRange}
 use Rattle.rules.specs.Types.{Logging, Engine, Counts, Answer, Outcome}

@@ -69,8 +69,8 @@ fn truths_of(en: Engine) -> [bool; 16]
 fn settle(fired: Fired, truth: [bool; 16], acted: Logging, ticks: bool, u: u64) -> Stepped
     ensures { λ r. ⌜ r ≡ settledAt fired truth acted ticks u ⌝ }
 {
-    let logging = log_state::ended_by(acted, u);
-    let answer = ticked_or(ticks, log_state::recorded_or_idle(logging));
+    let logging = endings::ended_by(acted, u);
+    let answer = ticked_or(ticks, endings::recorded_or_idle(logging));
     let last_firings = fired.last;
     let engine = Engine {
         logging,
@@ -147,8 +147,8 @@ fn process_event(words: &[u32], lay: Layout, en: Engine, ticks: bool, f: Frame) 
     ensures { λ r. ⌜ r ≡ steppedOf en (process (configOf (planBy (now (words .entry)) lay)) en (eventOf ticks f)) ⌝ }
 {
     let before = en.logging;
-    let l = log_state::ended_by(before, f.time);
-    if log_state::is_halted(l) {
+    let l = endings::ended_by(before, f.time);
+    if endings::is_halted(l) {
         return answer_with(en, l, ticks, f, Answer::Halted);
     }
     if is_stopped(words, lay, ticks, f) {

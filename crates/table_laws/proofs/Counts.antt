@@ -19,7 +19,7 @@ use Rattle.schema.specs.Schema.{Parent, parents, parentIn, any, oneOf, under}
 use Rattle.schema.specs.Steps.{nameOf, kindAmong}
 use Rattle.schema.proofs.Every.{everywhere}
 use Rattle.element.specs.Element.{Known, _at_if_, ownFaults}
-use Rattle.element.proofs.Gathers.{neither}
+use Rattle.element_laws.proofs.Gathers.{neither}
 use Rattle.reading.specs.Reading.{is}
 use Rattle.document.specs.Document.{gathered, counted, held, knownIn, knownAt, known, placeOf, unmet, lacks, elementFaults}
 use Rattle.document.proofs.Few.{left, top, Clean, append-none, clean-parts, clean-first, most, sum, Settled, few-inside, few-known}

@@ -20,9 +20,9 @@ use Rattle.schema.specs.Steps as schema
 use Rattle.schema.proofs.Laws.{kind-back}
 use Rattle.element.specs.Element.{Known, misfit, valueOf, textOf}
 use Rattle.element.specs.Steps.{firstNumber, shortText}
-use Rattle.element.proofs.Gathers.{neither}
-use Rattle.element.proofs.Texts.{short-law}
-use Rattle.element.proofs.Laws.{clean-law}
+use Rattle.element_laws.proofs.Gathers.{neither}
+use Rattle.picking.proofs.Texts.{short-law}
+use Rattle.element_laws.proofs.Laws.{clean-law}
 use Rattle.reading.specs.Reading.{is, actionOf}
 use Rattle.reading.specs.Steps as reading
 use Rattle.reading.proofs.Laws.{number-law}

@@ -15,7 +15,7 @@ use Rattle.schema.specs.Steps.{nameOf, kinds, kindAmong, kindUnder}
 use Rattle.schema.proofs.Laws.{kind-back, carried-name, carried-carried}
 use Rattle.element.specs.Element.{Known, _at_if_, ownFaults}
 use Rattle.element.specs.Steps.{firstNumber}
-use Rattle.element.proofs.Laws.{clean-law}
+use Rattle.element_laws.proofs.Laws.{clean-law}
 use Rattle.document.specs.declared.Entry.{Entry}
 use Rattle.document.specs.Document.{gathered, counted, knownIn, knownAt, known, placeOf, lacks, elementFaults}
 use Rattle.document.specs.Steps.{noEntry, entryOf, indexOf}

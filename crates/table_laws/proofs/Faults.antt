@@ -14,7 +14,7 @@ use Rattle.schema.specs.Steps.{nameOf, kindAmong, askedFrom, askedOf}
 use Rattle.element.specs.Element.{Known, Fault, _at_if_, goodOf, channelOf, valueOf}
 use Rattle.element.specs.Steps.{lacksFirst}
 use Rattle.element.specs.Steps as element
-use Rattle.element.proofs.Laws.{channel-law}
+use Rattle.element_laws.proofs.Laws.{channel-law}
 use Rattle.reading.specs.Reading.{is}
 use Rattle.reading.specs.Steps as reading
 use Rattle.document.specs.declared.Entry.{Entry}

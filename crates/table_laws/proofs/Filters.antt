@@ -24,8 +24,8 @@ use Rattle.schema.specs.Steps as schema
 use Rattle.schema.proofs.Laws.{kind-back}
 use Rattle.element.specs.Element.{Known, goodOf, channelOf, misfit}
 use Rattle.element.specs.Steps.{gathered, firstNumber}
-use Rattle.element.proofs.Gathers.{neither}
-use Rattle.element.proofs.Laws.{clean-law, channel-law}
+use Rattle.element_laws.proofs.Gathers.{neither}
+use Rattle.element_laws.proofs.Laws.{clean-law, channel-law}
 use Rattle.reading.specs.Reading.{is, filterOf}
 use Rattle.reading.specs.Steps.{filterFrom}
 use Rattle.reading.proofs.Laws.{pass-law, stop-law}

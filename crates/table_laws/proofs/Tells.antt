@@ -24,8 +24,8 @@ use Rattle.schema.specs.Steps.{nameOf, kinds, kindAmong, askedFrom, askedOf}
 use Rattle.schema.proofs.Every.{everywhere}
 use Rattle.element.specs.Element.{Known, worthBy, goodOf, spelled, given, has, repeated, misfit, valueOf}
 use Rattle.element.specs.Steps.{gathered, firstNumber, valueAt}
-use Rattle.element.proofs.Gathers.{neither}
-use Rattle.element.proofs.Laws.{Clean, clean-law, spelled-law}
+use Rattle.element_laws.proofs.Gathers.{neither}
+use Rattle.element_laws.proofs.Laws.{Clean, clean-law, spelled-law}
 use Rattle.lexer.specs.Lex.{spans, namesIn}
 use Rattle.reading.specs.Reading.{is, triggerOf}
 use Rattle.reading.specs.Steps as reading

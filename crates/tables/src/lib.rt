@@ -199,7 +199,7 @@ fn is_beyond(file: &[u8], channels: u32, entry: Entry) -> bool
     let place = entry.place;
     match kind {
         Kind::Channel => {
-            let w = element::channel_number(file, place);
+            let w = picking::channel_number(file, place);
             channels <= good_of(w)
         }
         Kind::MsgId | Kind::MsgDlc | Kind::ErrorFrame => channels

@@ -136,7 +136,7 @@ fn tell_name(file: &[u8], n: Names, e: Entry) -> Names
 {
     let kind = e.kind;
     if is_trigger(kind) {
-        let p = element::value_at(file, e.place, b"name");
+        let p = picking::value_at(file, e.place, b"name");
         return push_name(n, p, e.place);
     }
     n
@@ -241,11 +241,11 @@ fn tell_filter(file: &[u8], t: Filters, e: Entry) -> Filters
     let place = e.place;
     match kind {
         Kind::MessagePass | Kind::MessageStop => {
-            let x = reading::filter_at(file, place, kind, 0);
+            let x = filter_reading::filter_at(file, place, kind, 0);
             push_filter(t, x)
         }
         Kind::Channel => {
-            let w = element::channel_number(file, place);
+            let w = picking::channel_number(file, place);
             let channel = number_of(w);
             add_channel(t, channel)
         }

@@ -1,15 +1,5 @@
--- Laws that the crates above may cite.
+-- Laws that the crates above may cite; those of files of good shape are in the crate walk_laws.
 pub mod Places
 pub mod Answers
 pub mod Bounds
 pub mod Turns
-pub mod Slices
-pub mod Buffers
-pub mod Strays
-pub mod Trims
-pub mod Runs
-pub mod Items
-pub mod Tags
-pub mod Walks
-pub mod Files
-pub mod Laws

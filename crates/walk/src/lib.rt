@@ -1,7 +1,7 @@
 // The second pass over a file of good shape: what a converter needs to walk it.
 //
 // Promises: every answer is the function of the bytes that specs/Steps.antt gives, for every input.
-// What the answers are on a well-shaped file, in terms of its tree, is said in proofs/Laws.antt.
+// What the answers are on a well-shaped file, in terms of its tree, is said in the crate walk_laws.
 // May not touch: the shape itself (`xml` has checked it, nothing is checked again), and what any name or value means.
 ghost use mathlib.Core.Path.{_≡_};
 ghost use lib.ListN.{getD, drop};
@@ -97,12 +97,12 @@ fn remark_end(file: &[u8], i: usize) -> usize
 fn attribute_at(file: &[u8], a: usize) -> TagPart
     ensures { λ r. ⌜ r ≡ attributeAt (now (file .entry)) a ⌝ }
 {
-    let e = ascii::name_end(file, a);
-    let q = ascii::blanks_end(file, e);
+    let e = runs::name_end(file, a);
+    let q = runs::blanks_end(file, e);
     let b = ahead(file, q, 1);
-    let v = ascii::blanks_end(file, b);
+    let v = runs::blanks_end(file, b);
     let c = ahead(file, v, 1);
-    let k = ascii::value_end(file, c);
+    let k = text_runs::value_end(file, c);
     if k < file.len() {
         TagPart::Attribute(a, e, c, k)
     } else {
@@ -114,7 +114,7 @@ fn attribute_at(file: &[u8], a: usize) -> TagPart
 pub fn part_at(file: &[u8], i: usize) -> TagPart
     ensures { λ r. ⌜ r ≡ partAt (now (file .entry)) i ⌝ }
 {
-    let a = ascii::blanks_end(file, i);
+    let a = runs::blanks_end(file, i);
     let b = byte_at(file, a);
     if b == b'>' {
         return TagPart::Open(a + 1);
@@ -136,7 +136,7 @@ pub fn item_at(file: &[u8], i: usize) -> Item
 {
     let b = byte_at(file, i);
     if b != b'<' {
-        let e = ascii::text_end(file, i);
+        let e = text_runs::text_end(file, i);
         if i < e {
             return Item::Text(e);
         }
@@ -144,8 +144,8 @@ pub fn item_at(file: &[u8], i: usize) -> Item
     }
     let c = byte_at(file, i + 1);
     if c == b'/' {
-        let n = ascii::name_end(file, i + 2);
-        let q = ascii::blanks_end(file, n);
+        let n = runs::name_end(file, i + 2);
+        let q = runs::blanks_end(file, n);
         let k = ahead(file, q, 1);
         return Item::Close(k);
     }
@@ -162,7 +162,7 @@ pub fn name_of(file: &[u8], i: usize) -> Part
     ensures { λ r. ⌜ r ≡ nameOf (now (file .entry)) i ⌝ }
 {
     let from = ahead(file, i, 1);
-    let to = ascii::name_end(file, from);
+    let to = runs::name_end(file, from);
     Part { from, to }
 }
 
@@ -201,7 +201,7 @@ fn prolog_end(file: &[u8]) -> usize
     if byte_at(file, 1) != b'?' {
         return 0;
     }
-    let d = ascii::decl_end(file, 2);
+    let d = text_runs::decl_end(file, 2);
     ahead(file, d, 2)
 }
 
@@ -211,7 +211,7 @@ pub fn root_at(file: &[u8]) -> usize
 {
     let mut j = prolog_end(file);
     while j < file.len() {
-        let k = ascii::blanks_end(file, j);
+        let k = runs::blanks_end(file, j);
         match item_at(file, k) {
             Item::Remark(m) => {
                 j = m;

@@ -151,7 +151,7 @@ fn write_triggers(triggers: Triggers, out: &mut [u32]) -> usize
     let mut at = 0;
     let mut i = 0;
     while i < n {
-        let words = records::trigger_words(rows[i]);
+        let words = record_words::trigger_words(rows[i]);
         at += write_words(&words[..], &mut out[at..]);
         i += 1;
     }
@@ -168,7 +168,7 @@ fn write_filters(filters: Filters, out: &mut [u32]) -> usize
     let mut at = 0;
     let mut i = 0;
     while i < n {
-        let words = records::filter_words(rows[i]);
+        let words = record_words::filter_words(rows[i]);
         at += write_words(&words[..], &mut out[at..]);
         i += 1;
     }

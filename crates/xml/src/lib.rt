@@ -84,8 +84,8 @@ fn comment(file: &[u8], from: usize) -> Step
 fn equals(file: &[u8], from: usize) -> Step
     ensures { λ r. ⌜ Reads (tagged attr) (tagged equal) (now (file .entry)) from r ⌝ }
 {
-    let end = ascii::name_end(file, from);
-    let sign = ascii::blanks_end(file, end);
+    let end = runs::name_end(file, from);
+    let sign = runs::blanks_end(file, end);
     expect(file, sign, b'=')
 }
 
@@ -93,10 +93,10 @@ fn equals(file: &[u8], from: usize) -> Step
 fn quoted(file: &[u8], from: usize) -> Step
     ensures { λ r. ⌜ Reads (tagged equal) (tagged valued) (now (file .entry)) from r ⌝ }
 {
-    let quote = ascii::blanks_end(file, from);
+    let quote = runs::blanks_end(file, from);
     match expect(file, quote, b'"') {
         Step::At(value) => {
-            let end = ascii::value_end(file, value);
+            let end = text_runs::value_end(file, value);
             expect(file, end, b'"')
         }
         Step::Bad(p) => Step::Bad(p),
@@ -119,7 +119,7 @@ fn attributes(file: &[u8], from: usize) -> Step
 {
     let mut here = from;
     while here < file.len() {
-        let next = ascii::blanks_end(file, here);
+        let next = runs::blanks_end(file, here);
         if next == here {
             return Step::At(here);
         }
@@ -209,7 +209,7 @@ fn end_tag(file: &[u8], name: usize, end: usize, from: usize) -> Step
 {
     match same_name(file, name, end, from) {
         Step::At(next) => {
-            let last = ascii::blanks_end(file, next);
+            let last = runs::blanks_end(file, next);
             expect(file, last, b'>')
         }
         Step::Bad(p) => Step::Bad(p),
@@ -250,7 +250,7 @@ fn after_lt(file: &[u8], from: usize) -> Mark
 fn markup(file: &[u8], from: usize) -> Mark
     ensures { λ r. ⌜ Marks inText (now (file .entry)) from r ⌝ }
 {
-    let end = ascii::text_end(file, from);
+    let end = text_runs::text_end(file, from);
     match expect(file, end, b'<') {
         Step::At(next) => after_lt(file, next),
         Step::Bad(p) => Mark::Stop(p),
@@ -262,7 +262,7 @@ fn element(file: &[u8], from: usize, left: usize) -> Step
     requires { ⌜ from < length (now file) ⌝ }
     ensures { λ r. ⌜ ReadsElement (now (file .entry)) from left r ⌝ }
 {
-    let end = ascii::name_end(file, from + 1);
+    let end = runs::name_end(file, from + 1);
     match tag_rest(file, end) {
         Tag::Fault(p) => Step::Bad(p),
         Tag::Empty(past) => Step::At(past),
@@ -308,7 +308,7 @@ fn declared_text(file: &[u8], from: usize) -> Step
 {
     match expect(file, from, b'l') {
         Step::At(inner) => {
-            let end = ascii::decl_end(file, inner);
+            let end = text_runs::decl_end(file, inner);
             match expect(file, end, b'?') {
                 Step::At(last) => expect(file, last, b'>'),
                 Step::Bad(p) => Step::Bad(p),
@@ -347,7 +347,7 @@ fn misc(file: &[u8], from: usize) -> Outer
 {
     let mut here = from;
     while here < file.len() {
-        let next = ascii::blanks_end(file, here);
+        let next = runs::blanks_end(file, here);
         if file.len() <= next {
             return Outer::End(next);
         }

@@ -8,7 +8,7 @@ use mathlib.Core.List.{List}
 use lib.ListN.{length-replicate}
 use Rattle.walk.specs.Text.{trimmed}
 use Rattle.expression.specs.Steps.{compiled}
-use Rattle.element.proofs.Texts.{laid-within, laid-count, laid-taken}
+use Rattle.picking.proofs.Texts.{laid-within, laid-count, laid-taken}
 use Rattle.tables.specs.Steps.{namesAt}
 use Rattle.composing.specs.Steps.{compiledAt}
 

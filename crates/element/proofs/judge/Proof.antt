@@ -4,7 +4,7 @@ use Rattle.element.proofs.judge.Statement.{statement}
 use Rattle.element.proofs.judge.Tie as tie
 use mathlib.Core.Path.{sym, _∙_}
 use borrow.Author.Tests.{lt-ltb, le-ltb}
-use Rattle.element.proofs.Gathers.{judged-fit, judged-again, judged-unknown}
+use Rattle.element.proofs.Judged.{judged-fit, judged-again, judged-unknown}
 
 unfit-requires : tie.Need-unfit-requires
 unfit-requires c κs = search needs

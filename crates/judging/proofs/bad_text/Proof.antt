@@ -9,7 +9,7 @@ use Rattle.schema.specs.Steps.{nameOf}
 use Rattle.schema.proofs.Every.{told}
 use Rattle.element.specs.Element.{isBad}
 use Rattle.element.specs.Steps.{badText}
-use Rattle.element.proofs.Arms.{textless}
+use Rattle.element_laws.proofs.Arms.{textless}
 
 enum-told : tie.Need-enum-told
 enum-told c = search needs

@@ -12,7 +12,7 @@ use Rattle.schema.specs.declared.Kind.the-variants.{MessagePass, MessageStop}
 use Rattle.schema.specs.Steps.{nameOf}
 use Rattle.schema.proofs.Every.{told}
 use Rattle.element.specs.Steps.{boundsCrossed}
-use Rattle.element.proofs.Arms.{unbounded}
+use Rattle.element_laws.proofs.Arms.{unbounded}
 
 enum-told : tie.Need-enum-told
 enum-told c = search needs

@@ -9,7 +9,7 @@ use Rattle.schema.specs.declared.Kind.the-variants.{MessagePass, MessageStop}
 use Rattle.schema.specs.Steps.{nameOf}
 use Rattle.schema.proofs.Every.{told}
 use Rattle.element.specs.Steps.{unpaired}
-use Rattle.element.proofs.Arms.{unfiltered}
+use Rattle.element_laws.proofs.Arms.{unfiltered}
 
 array-read-result : tie.Need-array-read-result
 array-read-result c = search needs

@@ -5,7 +5,7 @@ use borrow.Fn.PlainCycle.{Measures, is, falls, and}
 use Rattle.xml.proofs.element.Reads as element
 use Rattle.xml.proofs.element.Kinds as element-kinds
 use Rattle.xml.proofs.+element.Lts-element as element-lts
-use Rattle.ascii.proofs.name_end.Reads as name-end-reads
+use Rattle.runs.proofs.name_end.Reads as name-end-reads
 use Rattle.xml.proofs.end_tag.Reads as end-tag-reads
 use Rattle.xml.proofs.markup.Reads as markup-reads
 use Rattle.xml.proofs.tag_rest.Reads as tag-rest-reads

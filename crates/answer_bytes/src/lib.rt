@@ -1,0 +1,84 @@
+// The bytes of a replay: those of an answer.
+//
+// Promises: `put_answer` writes the 32 bytes of an answer at the front of a buffer, or leaves one that is shorter as it was.
+// May not touch: plan words, the rules.
+ghost use mathlib.Core.Path.{_≡_};
+ghost use mathlib.Core.List.{_++_};
+ghost use Prim.Native.Nat.{_+_, _≤_};
+ghost use lib.ListN.{length, take, drop};
+ghost use Rattle.wire.specs.Wire.{bytesOf, answerByte, loggingByte, endTime, withAnswer};
+use rules::Answer;
+use rules::Logging;
+use rules::Outcome;
+
+fn answer_byte(a: Answer) -> u8
+    ensures { λ r. ⌜ r ≡ answerByte a ⌝ }
+{
+    match a {
+        Answer::Recorded => 0,
+        Answer::Idle => 1,
+        Answer::Stopped => 2,
+        Answer::Halted => 3,
+        Answer::Ticked => 4,
+        Answer::Refused(n) => (n % 256) as u8,
+    }
+}
+
+fn logging_byte(l: Logging) -> u8
+    ensures { λ r. ⌜ r ≡ loggingByte l ⌝ }
+{
+    match l {
+        Logging::Off => 0,
+        Logging::On => 1,
+        Logging::Ending(_) => 2,
+        Logging::EndingCompletely(_) => 3,
+        Logging::Halted => 4,
+    }
+}
+
+fn end_time(l: Logging) -> u64
+    ensures { λ r. ⌜ r ≡ endTime l ⌝ }
+{
+    match l {
+        Logging::Off => 0,
+        Logging::On => 0,
+        Logging::Ending(e) => e,
+        Logging::EndingCompletely(e) => e,
+        Logging::Halted => 0,
+    }
+}
+
+// Writes a number's bytes at `at`, low byte first.
+fn put_number(out: &mut [u8], at: usize, x: u64, size: usize)
+    requires { ⌜ at + size ≤ length (now out) ⌝ }
+    ensures { λ _. ⌜ now (out .exit) ≡ take at (now (out .entry)) ++ (bytesOf size x ++ drop (at + size) (now (out .entry))) ⌝ }
+{
+    let mut left = x;
+    let mut i = 0;
+    while i < size {
+        out[at + i] = (left % 256) as u8;
+        left = left / 256;
+        i += 1;
+    }
+}
+
+// Writes an answer's bytes at the front of `out`, where it has room for them.
+pub fn put_answer(out: &mut [u8], o: Outcome)
+    ensures { λ _. ⌜ now (out .exit) ≡ withAnswer o (now (out .entry)) ⌝ }
+{
+    if out.len() < 32 {
+        return;
+    }
+    let answer = o.answer;
+    let engine = o.engine;
+    let logging = engine.logging;
+    let counts = o.counts;
+    out[0] = answer_byte(answer);
+    out[1] = logging_byte(logging);
+    put_number(&mut out[..], 2, 0, 6);
+    put_number(&mut out[..], 8, end_time(logging), 8);
+    put_number(&mut out[..], 16, counts.recorded as u64, 4);
+    put_number(&mut out[..], 20, counts.idle as u64, 4);
+    put_number(&mut out[..], 24, counts.stopped as u64, 4);
+    put_number(&mut out[..], 28, counts.halted as u64, 4);
+}

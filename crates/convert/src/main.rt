@@ -1,0 +1,16 @@
+// Prints the words of the plan of the file on standard input, one to a line, or its refusal.
+//
+// Promises: the bytes are those of `printing::print_words`. A file longer than the buffer is cut there; it is still too long, and refused for that.
+const STDIN: i32 = 0;
+
+const STDOUT: i32 = 1;
+
+// The text has room for 1,590 lines of 11 bytes.
+fn main() {
+    let mut file = io::large_buffer();
+    let n = io::read_full(STDIN, &mut file);
+    let mut words = [0; 1590];
+    let mut text = io::large_buffer();
+    let m = printing::print_words(&file[..n], &mut words, &mut text);
+    io::write_all(STDOUT, &text[..m]);
+}

@@ -1,0 +1,2 @@
+-- `Loads` is the theorem.
+pub mod Loads

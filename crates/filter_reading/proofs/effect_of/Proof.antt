@@ -1,0 +1,25 @@
+-- `filter_reading::effect_of` meets its contract.
+use borrow.Author.Needs.{needs}
+use Rattle.filter_reading.proofs.effect_of.Statement.{statement}
+use Rattle.filter_reading.proofs.effect_of.Tie as tie
+use mathlib.Core.Path.{refl}
+use mathlib.Core.List.{[], _∷_}
+use Rattle.ascii.specs.Texts.{bytes, same}
+use Rattle.schema.specs.Steps.{nameOf}
+use Rattle.schema.specs.declared.Kind.the-variants.{File, Kvaser, Version, Settings, Mode, CanBus, Parameters, TriggerBlock, Triggers, MsgId, MsgDlc, ErrorFrame, Startup, Statements, Statement, Expression, Actions, StartLog, StopLog, StopLogCompletely, Filters, MessageStop, Channel, NotCarried, Unknown}
+use Rattle.schema.proofs.Every.{told}
+use Rattle.reading.specs.Steps.{effectOf}
+
+enum-told : tie.Need-enum-told
+enum-told c = search needs
+
+returns : tie.Need-returns
+unfolding nameOf bytes same
+returns c = rw (c .enum-told .given .1)
+
+returns-2 : tie.Need-returns-2
+unfolding nameOf bytes same
+returns-2 c = told effectOf _ (c .before .args .kind) (File ∷ Kvaser ∷ Version ∷ Settings ∷ Mode ∷ CanBus ∷ Parameters ∷ TriggerBlock ∷ Triggers ∷ MsgId ∷ MsgDlc ∷ ErrorFrame ∷ Startup ∷ Statements ∷ Statement ∷ Expression ∷ Actions ∷ StartLog ∷ StopLog ∷ StopLogCompletely ∷ Filters ∷ MessageStop ∷ Channel ∷ NotCarried ∷ Unknown ∷ []) refl (c .match .keys2)
+
+pub effect-of-spec : {M : Type 1} → statement M
+effect-of-spec = tie.close (tie.spec enum-told returns returns-2)

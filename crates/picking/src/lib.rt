@@ -1,0 +1,67 @@
+// One element of a known kind: the channel in its text, and one value by its attribute's name.
+//
+// Promises: each answer is the function of the bytes that specs/Steps.antt of `element` gives, for every input.
+// May not touch: other elements, and whether an element has faults.
+ghost use mathlib.Core.Path.{_≡_};
+ghost use Rattle.values.specs.Values.{worth};
+ghost use Rattle.walk.specs.Text.{trimmed};
+ghost use Rattle.schema.specs.Schema.{_to_};
+ghost use Rattle.element.specs.Steps.{numbered, valueAt};
+use values::Sort;
+use values::Worth;
+use walk::Part;
+use walk::TagPart;
+
+const LAST_CHANNEL: u32 = 4;
+
+// The channel that a text names, blanks at its ends aside.
+fn number_in(text: &[u8]) -> Worth
+    ensures { λ r. ⌜ r ≡ worth (0 to 4) (trimmed (now (text .entry))) ⌝ }
+{
+    let part = trimming::trim(text);
+    let a = part.from;
+    let e = part.to;
+    let sort = Sort::Numeric {
+        lo: 0,
+        hi: LAST_CHANNEL,
+        most: LAST_CHANNEL,
+    };
+    worth::worth_of(sort, &text[a..e])
+}
+
+// The channel that the text of the element at i names.
+pub fn channel_number(file: &[u8], i: usize) -> Worth
+    ensures { λ r. ⌜ r ≡ numbered (now (file .entry)) i ⌝ }
+{
+    let mut text = [0; 32768];
+    let n = gathering::gather_text(file, i, &mut text);
+    number_in(&text[..n])
+}
+
+// The value of the attribute of that name of the element at i; nothing at 0 if it has none.
+pub fn value_at(file: &[u8], i: usize, name: &[u8]) -> Part
+    ensures { λ r. ⌜ r ≡ valueAt (now (name .entry)) (now (file .entry)) i ⌝ }
+{
+    let n = walk::name_of(file, i);
+    let mut j = n.to;
+    while j < file.len() {
+        match walk::part_at(file, j) {
+            TagPart::Attribute(a, e, c, k) => {
+                if ascii::same_text(&file[a..e], name) {
+                    return Part { from: c, to: k };
+                }
+                j = k + 1;
+            }
+            TagPart::Open(_) => {
+                return Part { from: 0, to: 0 };
+            }
+            TagPart::Empty(_) => {
+                return Part { from: 0, to: 0 };
+            }
+            TagPart::Broken => {
+                return Part { from: 0, to: 0 };
+            }
+        }
+    }
+    Part { from: 0, to: 0 }
+}

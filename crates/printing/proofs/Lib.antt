@@ -1,0 +1,4 @@
+pub mod Checks
+pub mod Once
+pub mod Puts
+pub mod Room
