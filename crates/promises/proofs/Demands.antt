@@ -2,11 +2,12 @@
 use Rattle.xml_laws.proofs.OneDoc.{one-doc}
 use Rattle.loader.proofs.Exact as loader
 use Rattle.converter.proofs.Once.{one-converted}
+use Rattle.converter_c.proofs.Packing.{one-converting}
 use Rattle.rules.proofs.History.{answers-once, count-from-fresh}
 use Rattle.engine.proofs.Replays.{replays-once}
 use Rattle.logger_c.proofs.Loadings.{loading-once}
 use Rattle.promises.specs.Promises.{Demand1, Demand2, Demand3}
-use Rattle.promises.proofs.Refusals.{file-refused, plan-refused, event-refused, record-kept, c-loaded}
+use Rattle.promises.proofs.Refusals.{file-refused, plan-refused, event-refused, record-kept, c-converted, c-loaded}
 use Rattle.promises.proofs.Accepts.{converts-all, converts-none, meets, some-rules, one-rules, to-the-last}
 use Rattle.promises.proofs.Runs.{own-config, same-run-as, plan-taken, safe-codes}
 
@@ -19,6 +20,8 @@ demand-1 = record {
   event = event-refused;
   one-event = λ ws en k e o o′ a b. answers-once a b;
   record-stays = record-kept;
+  c-convert = c-converted;
+  one-convert = one-converting;
   c-load = c-loaded;
   one-load = λ ws r r′ a b. loading-once a b;
   one-replay = λ ws events k out x y a b. replays-once a b;

@@ -1,5 +1,5 @@
 -- Demand 1: a refusal has the paper's number and place, and changes nothing.
-use Prim.Native.Nat.{ℕ}
+use Prim.Native.Nat.{ℕ, _/_, _%_}
 use mathlib.Core.Path.{_≡_, refl, sym, ap, _∙_, subst}
 use mathlib.Core.Logic.{_⊎_, inl, inr}
 use mathlib.Core.Option.{Option, none, some, Option·none-ne-some}
@@ -14,7 +14,10 @@ use Rattle.loader.specs.declared.Loaded.{Loaded}
 use Rattle.loader.specs.Plan.{PlanOf, Loads}
 use Rattle.loader.specs.Plan as loader
 use Rattle.converter.specs.declared.Converted.{Converted}
+use Rattle.converter.specs.declared.Converted.the-variants.{Words, Refused}
 use Rattle.converter.specs.Converter.{faults, Converts}
+use Rattle.converter_c.specs.Calls.{packed, Converting, converting}
+use Rattle.converter_c.proofs.Packing.{words-told, refused-told}
 use Rattle.rules.specs.declared.Engine.{Engine}
 use Rattle.rules.specs.declared.Counts.{Counts}
 use Rattle.rules.specs.declared.Answer.{Answer}
@@ -50,6 +53,19 @@ file-refused s d r out (Converts.faulty x short w c h a l e) n p g =
     let k : faults c (length d) x ≡ record { number = n; place = p } ∷ l = e ∙ ap (λ (y : Fault). y ∷ l) (λ i. record { number = u i; place = v i }) in
     (Refuses.by-fault x c l short w h k, refl)
 file-refused s d r out (Converts.converted x short w c h e) n p g = absurd (Option·none-ne-some (n, p) g)
+
+-- the C call packs what the converter answers
+packed-tells : (s d : List ℕ) (a : Converted) (out : List ℕ) → Converts s d a out → ((packed a / 4294967296 ≡ 0) × Converts s d (Words (packed a % 4294967296)) out) ⊎ (Refuses s d (packed a / 4294967296) (packed a % 4294967296) × (out ≡ d))
+packed-tells s d (Words n) out h =
+    let t = words-told s d n out h in
+    inl (t .0, subst (λ (m : ℕ). Converts s d (Words m) out) (sym (t .1)) h)
+packed-tells s d (Refused n p) out h =
+    let t = refused-told s d n p out h in
+    let g = file-refused s d (Refused n p) out h n p refl in
+    inr (subst (λ (m : ℕ). Refuses s d m (packed (Refused n p) % 4294967296)) (sym (t .0)) (subst (Refuses s d n) (sym (t .1)) (g .0)), g .1)
+
+pub c-converted : (s d : List ℕ) (r : ℕ) (out : List ℕ) → Converting s d r out → ((r / 4294967296 ≡ 0) × Converts s d (Words (r % 4294967296)) out) ⊎ (Refuses s d (r / 4294967296) (r % 4294967296) × (out ≡ d))
+c-converted s d r out (converting a _ h) = packed-tells s d a out h
 
 -- ---- plans
 pub plan-refused : (ws : List ℕ) (r : Loaded) → Loads ws r → (n p : ℕ) → loader.refusalOf r ≡ some (n, p) → (n ≡ 20) × (p ≡ 0) × (PlanOf ws → ⊥)

@@ -1,5 +1,5 @@
 -- Paper 01, "What the contracts settle", and the three demands on converter, loader and engine, as statements. proofs/Demands.antt proves them.
-use Prim.Native.Nat.{ℕ, _≤_, _<_}
+use Prim.Native.Nat.{ℕ, _/_, _%_, _≤_, _<_}
 use mathlib.Core.Path.{_≡_}
 use mathlib.Core.Logic.{_⊎_}
 use mathlib.Core.Option.{Option, none, some}
@@ -24,6 +24,7 @@ use Rattle.tables.specs.Tables.{tableFaults}
 use Rattle.converter.specs.declared.Converted.{Converted}
 use Rattle.converter.specs.declared.Converted.the-variants.{Words, Refused}
 use Rattle.converter.specs.Converter.{GivesAll, wordsFor, expressionFaults, faults, Converts}
+use Rattle.converter_c.specs.Calls.{Converting}
 use Rattle.rules.specs.declared.Engine.{Engine}
 use Rattle.rules.specs.declared.Counts.{Counts}
 use Rattle.rules.specs.declared.Outcome.{Outcome}
@@ -63,7 +64,9 @@ pub record Demand1 : Type 0 where
   pub one-event : (ws : List ℕ) (en : Engine) (k : Counts) (e : Event) (o o′ : Outcome) → Answers ws en k e o → Answers ws en k e o′ → o ≡ o′
   -- the host's record is the outcome's counts
   pub record-stays : (ws : List ℕ) (en : Engine) (k after : Counts) (e : Event) (o : Outcome) → Answers ws en k e o → after ≡ o .counts → (n p : ℕ) → calls.refusalOf (o .answer) ≡ some (n, p) → after ≡ k
-  -- the C functions: 0 or 20, and every byte of a replay's answers
+  -- the C functions: the plan's length, or a refusal's number above its place; 0 or 20; and every byte of a replay's answers
+  pub c-convert : (s d : List ℕ) (r : ℕ) (out : List ℕ) → Converting s d r out → ((r / 4294967296 ≡ 0) × Converts s d (Words (r % 4294967296)) out) ⊎ (Refuses s d (r / 4294967296) (r % 4294967296) × (out ≡ d))
+  pub one-convert : (s d : List ℕ) (r r′ : ℕ) (out out′ : List ℕ) → Converting s d r out → Converting s d r′ out′ → (r ≡ r′) × (out ≡ out′)
   pub c-load : (ws : List ℕ) (r : ℕ) → Loading ws r → ((r ≡ 0) × PlanOf ws) ⊎ ((r ≡ 20) × (PlanOf ws → ⊥))
   pub one-load : (ws : List ℕ) (r r′ : ℕ) → Loading ws r → Loading ws r′ → r ≡ r′
   pub one-replay : (ws events : List ℕ) (k : Counts) (out a b : List ℕ) → Replays ws events k out a → Replays ws events k out b → a ≡ b
