@@ -1,109 +1,151 @@
--- Laws of a stack that lies in an array: one for each way that a word goes, and the turn and the ends of the loop over code.
-use Prim.Native.Nat.{ℕ, zero, suc, _+_, _-_, _≤_, _<_}
+-- Laws of a stack that is held as bits of a number: a value more or fewer, one law for each way that a word goes, and the turn and the ends of the loop over code.
+use Prim.Native.Nat.{ℕ, zero, suc, _+_, _-_, _*_, _/_, _%_, _^_, _≤_, _<_}
+use native.Mathlib.Nat.{two-pow-succ, pow-le-pow-right}
 use native.Mathlib.Omega.{arith}
 use native.Mathlib.Numerals.{add-one}
 use mathlib.Core.Path.{_≡_, refl, sym, ap, _∙_}
-use mathlib.Core.Bool.{Bool, true, false, cond, not, _&&_, _||_}
-use mathlib.Core.Option.{Option, none, some}
-use mathlib.Core.List.{List, _∷_}
-use lib.ListN.{length, drop, getD, set, drop-of-length-le}
-use lib.Seq.{getD-set-same, getD-set-other}
-use borrow.Author.Tests.{lt-ltb, le-ltb}
-use Rattle.code.specs.Code.{limit, joined, step, stepWord, runWords, valueOf}
-use Rattle.code.specs.Steps.{stackOf, held}
+use mathlib.Core.Bool.{Bool, true, false, not, _&&_, _||_}
+use mathlib.Core.Option.{none, some}
+use mathlib.Core.List.{List, [], _∷_}
+use lib.ListN.{length, drop, getD, drop-of-length-le}
+use borrow.Author.Tests.{lt-ltb, le-ltb, eq-eqb, ne-eqb}
+use mir.Val.{boolByte}
+use Rattle.code.specs.Code.{limit, joined, step, stepWord, runWords, valueOf, valueOn}
+use Rattle.code.specs.Steps.{topOf, bitsOf, Holds}
 use Rattle.code.specs.declared.Stack.{Stack}
 use Rattle.code.specs.declared.Value.the-variants.{Is, Fault}
 use Rattle.code.proofs.Words.{word-at, op-push, op-both, op-either, op-invert, op-none}
 
--- a value stored at k leaves what lies below it, and is the top of k + 1 values
-stack-keep : (vs : List Bool) (k : ℕ) (b : Bool) (h : ℕ) → h ≤ k → stackOf (set vs k b) h ≡ stackOf vs h
-unfolding stackOf
-stack-keep vs k b zero g = refl
-stack-keep vs k b (suc h) g = rw (getD-set-other vs k h b false (omega arith), stack-keep vs k b h (omega arith))
+-- h bits are below 2 ^ 24, so that the number has room for one more
+pub fits-limit : (h n : ℕ) → h ≤ limit → n < 2 ^ h → n < 2 ^ limit
+fits-limit h n a b = let y : 2 ^ h ≤ 2 ^ limit = pow-le-pow-right (omega arith) a in omega arith
 
-stack-set : (vs : List Bool) (k : ℕ) (b : Bool) → k < length vs → stackOf (set vs k b) (suc k) ≡ b ∷ stackOf vs k
-unfolding stackOf
-stack-set vs k b g = rw (getD-set-same vs k b false g, stack-keep vs k b k (omega arith))
+-- what is left when one value or two are taken
+pub fits-one : (h n : ℕ) → 1 ≤ h → n < 2 ^ h → n / 2 < 2 ^ (h - 1)
+fits-one zero n a b = absurd (omega arith)
+fits-one (suc h) n a b =
+    let x : suc h - 1 ≡ h = omega arith in
+    rw x (omega (arith, two-pow-succ h))
 
-stack-length : (vs : List Bool) (h : ℕ) → length (stackOf vs h) ≡ h
-unfolding stackOf
-stack-length vs zero = refl
-stack-length vs (suc h) = ap suc (stack-length vs h)
+pub fits-two : (h n : ℕ) → 2 ≤ h → n < 2 ^ h → n / 4 < 2 ^ (h - 2)
+fits-two zero n a b = absurd (omega arith)
+fits-two (suc zero) n a b = absurd (omega arith)
+fits-two (suc (suc h)) n a b =
+    let x : suc (suc h) - 2 ≡ h = omega arith in
+    rw x (omega (arith, two-pow-succ h, two-pow-succ (suc h)))
+
+pub byte-small : (b : Bool) → boolByte b ≤ 1
+byte-small true = omega arith
+byte-small false = omega arith
+
+top-push : (n : ℕ) (b : Bool) → topOf (2 * n + boolByte b) ≡ b
+top-push n true = eq-eqb ((2 * n + 1) % 2) 1 (omega arith)
+top-push n false = ne-eqb ((2 * n + 0) % 2) 1 (omega arith)
+
+-- a value that is pushed is the top, and leaves what lies below it
+bits-push : (h n : ℕ) (b : Bool) → bitsOf (suc h) (2 * n + boolByte b) ≡ b ∷ bitsOf h n
+unfolding bitsOf
+bits-push h n b =
+    let y : (2 * n + boolByte b) / 2 ≡ n = omega (arith, byte-small b) in
+    rw (top-push n b, y)
+
+pub push-holds : (h n : ℕ) (b : Bool) → h < limit → n < 2 ^ h → Holds (record { h = h + 1; bits = 2 * n + boolByte b }) (b ∷ bitsOf h n)
+push-holds h n b a f = record {
+  few = omega arith;
+  fits = rw add-one (omega (arith, two-pow-succ h, byte-small b));
+  held = rw add-one (bits-push h n b);
+}
+
+bits-length : (h n : ℕ) → length (bitsOf h n) ≡ h
+unfolding bitsOf
+bits-length zero n = refl
+bits-length (suc h) n = ap suc (bits-length h (n / 2))
 
 -- any operator on the two top values
-pub join-top : (f : Bool → Bool → Bool) (vs : List Bool) (h : ℕ) → 2 ≤ h → h ≤ length vs
-    → some (stackOf (set vs (h - 2) (f (getD vs (h - 2) false) (getD vs (h - 1) false))) (h - 1)) ≡ joined f (stackOf vs h)
-unfolding stackOf
-join-top f vs zero a b = absurd (omega arith)
-join-top f vs (suc zero) a b = absurd (omega arith)
-join-top f vs (suc (suc h)) a b =
+pub join-top : (f : Bool → Bool → Bool) (h n : ℕ) {a b : Bool} → 2 ≤ h → a ≡ topOf (n / 2) → b ≡ topOf n → joined f (bitsOf h n) ≡ some (f a b ∷ bitsOf (h - 2) (n / 4))
+unfolding bitsOf
+join-top f zero n g p q = absurd (omega arith)
+join-top f (suc zero) n g p q = absurd (omega arith)
+join-top f (suc (suc h)) n g p q =
     let x : suc (suc h) - 2 ≡ h = omega arith in
-    let y : suc (suc h) - 1 ≡ suc h = omega arith in
-    rw (x, y) (ap some (stack-set vs h (f (getD vs h false) (getD vs (suc h) false)) (omega arith)))
+    let y : n / 4 ≡ n / 2 / 2 = omega arith in
+    rw (x, y, p, q)
 
-pub join-few : (f : Bool → Bool → Bool) (vs : List Bool) (h : ℕ) → h < 2 → none ≡ joined f (stackOf vs h)
-unfolding stackOf
-join-few f vs zero a = refl
-join-few f vs (suc zero) a = refl
-join-few f vs (suc (suc h)) a = absurd (omega arith)
+pub join-few : (f : Bool → Bool → Bool) (h n : ℕ) → h < 2 → joined f (bitsOf h n) ≡ none
+unfolding bitsOf
+join-few f zero n g = refl
+join-few f (suc zero) n g = refl
+join-few f (suc (suc h)) n g = absurd (omega arith)
 
 module _ (v : ℕ → Bool) (w : ℕ) where
-  pub word-both : (st : List Bool) → w ≡ 32 → joined _&&_ st ≡ stepWord limit v w st
+  pub word-both : (st : List Bool) → w ≡ 32 → stepWord limit v w st ≡ joined _&&_ st
   unfolding stepWord step
-  word-both st a = rw (op-both w a)
+  word-both st e = rw (op-both w e)
 
-  pub word-either : (st : List Bool) → w ≡ 33 → joined _||_ st ≡ stepWord limit v w st
+  pub word-either : (st : List Bool) → w ≡ 33 → stepWord limit v w st ≡ joined _||_ st
   unfolding stepWord step
-  word-either st a = rw (op-either w a)
+  word-either st e = rw (op-either w e)
 
-  pub word-not : (vs : List Bool) (h : ℕ) → w ≡ 34 → 1 ≤ h → h ≤ length vs → some (stackOf (set vs (h - 1) (not (getD vs (h - 1) false))) h) ≡ stepWord limit v w (stackOf vs h)
-  unfolding stepWord step stackOf
-  word-not vs zero a b c = absurd (omega arith)
-  word-not vs (suc h) a b c =
-      let y : suc h - 1 ≡ h = omega arith in
-      rw (op-invert w a, y) (ap some (stack-set vs h (not (getD vs h false)) (omega arith)))
+  pub word-not : (h n : ℕ) {a : Bool} → w ≡ 34 → 1 ≤ h → a ≡ topOf n → stepWord limit v w (bitsOf h n) ≡ some (not a ∷ bitsOf (h - 1) (n / 2))
+  unfolding stepWord step bitsOf
+  word-not zero n e g p = absurd (omega arith)
+  word-not (suc h) n e g p =
+      let x : suc h - 1 ≡ h = omega arith in
+      rw (op-invert w e, x, p)
 
-  pub word-empty : (vs : List Bool) (h : ℕ) → w ≡ 34 → h < 1 → none ≡ stepWord limit v w (stackOf vs h)
-  unfolding stepWord step stackOf
-  word-empty vs zero a b = rw (op-invert w a)
-  word-empty vs (suc h) a b = absurd (omega arith)
+  pub word-empty : (h n : ℕ) → w ≡ 34 → h < 1 → stepWord limit v w (bitsOf h n) ≡ none
+  unfolding stepWord step bitsOf
+  word-empty zero n e g = rw (op-invert w e)
+  word-empty (suc h) n e g = absurd (omega arith)
 
-  pub word-push : (vs : List Bool) (h : ℕ) → w < 32 → h < limit → h < length vs → some (stackOf (set vs h (v w)) (h + 1)) ≡ stepWord limit v w (stackOf vs h)
+  pub word-push : (h n : ℕ) → w < 32 → h < limit → stepWord limit v w (bitsOf h n) ≡ some (v w ∷ bitsOf h n)
   unfolding stepWord step
-  word-push vs h a b c = rw (op-push w a, stack-length vs h, lt-ltb h limit b, add-one) (ap some (stack-set vs h (v w) c))
+  word-push h n a g = rw (op-push w a, bits-length h n, lt-ltb h limit g)
 
-  pub word-full : (vs : List Bool) (h : ℕ) → w < 32 → limit ≤ h → none ≡ stepWord limit v w (stackOf vs h)
+  pub word-full : (h n : ℕ) → w < 32 → limit ≤ h → stepWord limit v w (bitsOf h n) ≡ none
   unfolding stepWord step
-  word-full vs h a b = rw (op-push w a, stack-length vs h, le-ltb h limit b)
+  word-full h n a g = rw (op-push w a, bits-length h n, le-ltb h limit g)
 
-  pub word-none : (st : List Bool) → 34 < w → none ≡ stepWord limit v w st
+  pub word-none : (st : List Bool) → 34 < w → stepWord limit v w st ≡ none
   unfolding stepWord
   word-none st a = rw (op-none w a)
 
--- a flag that is set chooses
-pub chosen : {x y : Option (List Bool)} (b : Bool) → b ≡ true → x ≡ y → cond b x none ≡ y
-chosen {x} b o e = ap (λ a. cond a x none) o ∙ e
+-- After i words: the words that are left, run on the stack now, give what all words give on the empty stack.
+pub record Stands (states : List Bool) (c : List ℕ) (i : ℕ) (s : Stack) : Type 0 where
+  pub within : i ≤ length c
+  pub few : s .h ≤ limit
+  pub fits : s .bits < 2 ^ s .h
+  pub same : runWords limit (λ k. getD states k false) c [] ≡ runWords limit (λ k. getD states k false) (drop i c) (bitsOf (s .h) (s .bits))
 
-module _ (v : ℕ → Bool) (c : List ℕ) (i : ℕ) (st : List Bool) where
-  pub run-on : (r : Stack) → i < length c → held r ≡ stepWord limit v (getD c i 0) st → r .ok ≡ true
-      → runWords limit v (drop i c) st ≡ runWords limit v (drop (i + 1) c) (stackOf (r .values) (r .h))
+module _ (states : List Bool) (c : List ℕ) where
+  pub at-first : Stands states c 0 (record { h = 0; bits = 0 })
+  unfolding bitsOf
+  at-first = record { within = omega arith; few = omega arith; fits = omega arith; same = refl }
+
+  pub goes-on : (i : ℕ) (s r : Stack) {st : List Bool} → Stands states c i s → i < length c
+      → stepWord limit (λ k. getD states k false) (getD c i 0) (bitsOf (s .h) (s .bits)) ≡ some st → Holds r st → Stands states c (i + 1) r
   unfolding runWords
-  run-on r g e o = rw (word-at c i g, sym e ∙ chosen (r .ok) o refl)
+  goes-on i s r x g e k = record { within = omega arith; few = k .few; fits = k .fits; same = x .same ∙ rw (word-at c i g, e, k .held) }
 
-  pub run-stop : (r : Stack) → i < length c → held r ≡ stepWord limit v (getD c i 0) st → r .ok ≡ false → runWords limit v (drop i c) st ≡ none
-  unfolding runWords
-  run-stop r g e o = rw (word-at c i g, sym e ∙ ap (λ a. cond a (some (stackOf (r .values) (r .h))) none) o)
+  pub stops : (i : ℕ) (s : Stack) → Stands states c i s → i < length c
+      → stepWord limit (λ k. getD states k false) (getD c i 0) (bitsOf (s .h) (s .bits)) ≡ none → Fault ≡ valueOn states c
+  unfolding runWords valueOn
+  stops i s x g e =
+      let y : runWords limit (λ k. getD states k false) (drop i c) (bitsOf (s .h) (s .bits)) ≡ none = rw (word-at c i g, e) in
+      sym (ap valueOf (x .same ∙ y))
 
-  pub run-end : length c ≤ i → runWords limit v (drop i c) st ≡ some st
-  unfolding runWords
-  run-end g = rw (drop-of-length-le c g)
+  pub ends : (i : ℕ) (s : Stack) → Stands states c i s → length c ≤ i → valueOf (some (bitsOf (s .h) (s .bits))) ≡ valueOn states c
+  unfolding runWords valueOn
+  ends i s x g =
+      let y : runWords limit (λ k. getD states k false) (drop i c) (bitsOf (s .h) (s .bits)) ≡ some (bitsOf (s .h) (s .bits)) = rw (drop-of-length-le c g) in
+      sym (ap valueOf (x .same ∙ y))
 
-pub one-left : (vs : List Bool) (h : ℕ) → h ≡ 1 → valueOf (some (stackOf vs h)) ≡ Is (getD vs 0 false)
-unfolding stackOf
-one-left vs h e = rw e
+pub one-left : (h n : ℕ) → h ≡ 1 → valueOf (some (bitsOf h n)) ≡ Is (topOf n)
+unfolding bitsOf
+one-left h n e = rw e
 
-pub not-one : (vs : List Bool) (h : ℕ) → (h ≡ 1 → ⊥) → valueOf (some (stackOf vs h)) ≡ Fault
-unfolding stackOf
-not-one vs zero e = refl
-not-one vs (suc zero) e = absurd (e refl)
-not-one vs (suc (suc h)) e = refl
+pub not-one : (h n : ℕ) → (h ≡ 1 → ⊥) → valueOf (some (bitsOf h n)) ≡ Fault
+unfolding bitsOf
+not-one zero n e = refl
+not-one (suc zero) n e = absurd (e refl)
+not-one (suc (suc h)) n e = refl

@@ -1,9 +1,11 @@
 -- What the contracts of the inner functions need: the code's own forms of a height and of a stack.
-use Prim.Native.Nat.{ℕ, zero, suc}
-use mathlib.Core.Bool.{Bool, false, cond}
+use Prim.Native.Nat.{ℕ, zero, suc, _/_, _%_, _^_, _≤_, _<_}
+use mathlib.Core.Path.{_≡_}
+use mathlib.Core.Bool.{Bool}
 use mathlib.Core.Option.{Option, none, some}
 use mathlib.Core.List.{List, [], _∷_}
-use lib.ListN.{getD}
+use lib.Dec.{eqb}
+use Rattle.code.specs.Code.{limit}
 use Rattle.code.specs.declared.Level.{Level}
 use Rattle.code.specs.declared.Level.the-variants.{To, Fault}
 use Rattle.code.specs.declared.Stack.{Stack}
@@ -13,11 +15,17 @@ abbrev pub levelOf : Option ℕ → Level
 levelOf none = Fault
 levelOf (some h) = To h
 
--- the first h values of an array as a stack, the last on top
-unfoldable pub stackOf : List Bool → ℕ → List Bool
-stackOf vs zero = []
-stackOf vs (suc h) = getD vs h false ∷ stackOf vs h
+-- the lowest bit of a number
+abbrev pub topOf : ℕ → Bool
+topOf n = eqb (n % 2) 1
 
--- the stack that a struct holds, unless a word was at fault
-abbrev pub held : Stack → Option (List Bool)
-held s = cond (s .ok) (some (stackOf (s .values) (s .h))) none
+-- the lowest h bits of a number as a stack, the lowest on top
+unfoldable pub bitsOf : ℕ → ℕ → List Bool
+bitsOf zero n = []
+bitsOf (suc h) n = topOf n ∷ bitsOf h (n / 2)
+
+-- a struct holds a stack, within the limit, and no bits above it
+pub record Holds (s : Stack) (st : List Bool) : Type 0 where
+  pub few : s .h ≤ limit
+  pub fits : s .bits < 2 ^ s .h
+  pub held : bitsOf (s .h) (s .bits) ≡ st

@@ -3,11 +3,11 @@
 // code that is ok never faults, whatever the states (the theorem `sound-code` of code_laws).
 // It may not touch what it is lent, and knows nothing of plans, events and files.
 ghost use mathlib.Core.Path.{_≡_};
-ghost use Prim.Native.Nat.{ℕ, _≤_};
-ghost use mathlib.Core.Bool.{true, false};
-ghost use lib.ListN.{getD};
-ghost use Rattle.code.specs.Code.{limit, stepWord, valueOn, rise as riseTo, soundCode};
-ghost use Rattle.code.specs.Steps.{levelOf, stackOf, held};
+ghost use Prim.Native.Nat.{_<_, _^_};
+ghost use mathlib.Core.Option.{some};
+ghost use mathlib.Core.List.{_∷_};
+ghost use Rattle.code.specs.Code.{limit, valueOf, valueOn, rise as riseTo, soundCode};
+ghost use Rattle.code.specs.Steps.{levelOf, topOf, bitsOf, Holds};
 
 // How many values a stack holds at most.
 const LIMIT: usize = 24;
@@ -64,52 +64,28 @@ pub fn code_ok(code: &[u32], triggers: u32) -> bool
     h == 1
 }
 
-// A stack of truth values: h of them, the last on top. Not ok: a word was at fault.
+// A stack of truth values: h of them, as bits of a number, the top in the lowest.
 struct Stack {
-    ok: bool,
     h: usize,
-    values: [bool; LIMIT],
+    bits: u32,
 }
 
-// One word on a stack.
-fn step_word(w: u32, s: Stack, states: [bool; 32]) -> Stack
-    requires { ⌜ (s .ok ≡ true) × (s .h ≤ limit) ⌝ }
-    ensures { λ r. ⌜ (held r ≡ stepWord limit (λ (i : ℕ). getD states i false) w (stackOf (s .values) (s .h))) × (r .h ≤ limit) ⌝ }
+// The value on top.
+fn top(bits: u32) -> bool
+    ensures { λ r. ⌜ r ≡ topOf bits ⌝ }
 {
-    let h = s.h;
-    let mut next = s;
-    match w {
-        0..=31 => {
-            if h < LIMIT {
-                next.values[h] = states[w as usize];
-                next.h = h + 1;
-                return next;
-            }
-        }
-        32 => {
-            if 2 <= h {
-                next.values[h - 2] = next.values[h - 2] & next.values[h - 1];
-                next.h = h - 1;
-                return next;
-            }
-        }
-        33 => {
-            if 2 <= h {
-                next.values[h - 2] = next.values[h - 2] | next.values[h - 1];
-                next.h = h - 1;
-                return next;
-            }
-        }
-        34 => {
-            if 1 <= h {
-                next.values[h - 1] = !next.values[h - 1];
-                return next;
-            }
-        }
-        _ => {}
+    bits % 2 == 1
+}
+
+// The stack with one value more on top of h values, which are held as bits.
+fn pushed(h: usize, bits: u32, value: bool) -> Stack
+    requires { ⌜ (h < limit) × (bits < 2 ^ h) ⌝ }
+    ensures { λ r. ⌜ Holds r (value ∷ bitsOf h bits) ⌝ }
+{
+    Stack {
+        h: h + 1,
+        bits: 2 * bits + value as u32,
     }
-    next.ok = false;
-    next
 }
 
 // What code gives on the triggers' states.
@@ -118,24 +94,53 @@ pub enum Value {
     Fault,
 }
 
-pub fn evaluate(code: &[u32], states: [bool; 32]) -> Value
-    ensures { λ r. ⌜ r ≡ valueOn states (now (code .entry)) ⌝ }
+// What a stack gives at the end: the one value that is left.
+fn value_left(s: Stack) -> Value
+    ensures { λ r. ⌜ r ≡ valueOf (some (bitsOf (s .h) (s .bits))) ⌝ }
 {
-    let mut s = Stack {
-        ok: true,
-        h: 0,
-        values: [false; LIMIT],
-    };
-    let mut i = 0;
-    while i < code.len() {
-        s = step_word(code[i], s, states);
-        if !s.ok {
-            return Value::Fault;
-        }
-        i += 1;
-    }
     if s.h != 1 {
         return Value::Fault;
     }
-    Value::Is(s.values[0])
+    Value::Is(top(s.bits))
+}
+
+// Runs code on the triggers' states.
+pub fn evaluate(code: &[u32], states: [bool; 32]) -> Value
+    ensures { λ r. ⌜ r ≡ valueOn states (now (code .entry)) ⌝ }
+{
+    let mut s = Stack { h: 0, bits: 0 };
+    let mut i = 0;
+    while i < code.len() {
+        let w = code[i];
+        // before the match, so that each arm ends the turn
+        i += 1;
+        match w {
+            0..=31 => {
+                if LIMIT <= s.h {
+                    return Value::Fault;
+                }
+                s = pushed(s.h, s.bits, states[w as usize]);
+            }
+            32 => {
+                if s.h < 2 {
+                    return Value::Fault;
+                }
+                s = pushed(s.h - 2, s.bits / 4, top(s.bits / 2) & top(s.bits));
+            }
+            33 => {
+                if s.h < 2 {
+                    return Value::Fault;
+                }
+                s = pushed(s.h - 2, s.bits / 4, top(s.bits / 2) | top(s.bits));
+            }
+            34 => {
+                if s.h < 1 {
+                    return Value::Fault;
+                }
+                s = pushed(s.h - 1, s.bits / 2, !top(s.bits));
+            }
+            _ => return Value::Fault,
+        }
+    }
+    value_left(s)
 }
