@@ -12,6 +12,7 @@ ghost use Rattle.tables.specs.Steps.{namesAt};
 ghost use Rattle.composing.specs.Steps.{compiledAt, noLine, noLines, lineFrom, pushLine, stopped, composed};
 use expression::Compiled;
 use expression::Verdict;
+use single_text::Single;
 use telling::Draft;
 use telling::Drafts;
 use telling::Names;
@@ -53,13 +54,19 @@ fn compile_text(text: &[u8], file: &[u8], names: Names) -> Compiled
     expression::compile(&text[a..e], file, &starts[..n], &ends[..n])
 }
 
-// The code of the text of the element at a place.
+// The code of the text of the element at a place. Nearly every text is one piece, and is read where it stands; others are joined in a buffer.
+// One function, since each that `names` is handed on to copies it.
 fn compile_at(file: &[u8], names: Names, place: usize) -> Compiled
     ensures { λ r. ⌜ r ≡ compiledAt (now (file .entry)) names place ⌝ }
 {
-    let mut text = [0; 32768];
-    let n = gathering::gather_text(file, place, &mut text);
-    compile_text(&text[..n], file, names)
+    match single_text::single_text(file, place) {
+        Single::Part(a, b) => compile_text(&file[a..b], file, names),
+        Single::Pieces => {
+            let mut text = [0; 32768];
+            let n = gathering::gather_text(file, place, &mut text);
+            compile_text(&text[..n], file, names)
+        }
+    }
 }
 
 fn no_line() -> Line

@@ -12,6 +12,7 @@ ghost use Rattle.element.specs.Element.{isBad};
 ghost use Rattle.element.specs.Steps.{lacksFirst, unpaired, lacking, idsCrossed, boundsCrossed, shortText, badText, ownFault};
 use element::SLOTS;
 use schema::Kind;
+use single_text::Single;
 use values::Worth;
 
 const LAST_STANDARD: u32 = 2047;
@@ -96,13 +97,23 @@ fn is_version(text: &[u8]) -> bool
     ascii::same_text(&text[a..e], b"2.0")
 }
 
-// Is the text of the element at i the version that is carried?
-fn has_version(file: &[u8], i: usize) -> bool
+// Is the text of the element at i, its pieces joined in a buffer, the version that is carried?
+fn has_joined_version(file: &[u8], i: usize) -> bool
     ensures { λ r. ⌜ r ≡ same (shortText (now (file .entry)) i) (bytes "2.0") ⌝ }
 {
     let mut spelt = [0; 32768];
     let n = gathering::gather_text(file, i, &mut spelt);
     is_version(&spelt[..n])
+}
+
+// Is the text of the element at i the version that is carried? Nearly every text is one piece, and is read where it stands.
+fn has_version(file: &[u8], i: usize) -> bool
+    ensures { λ r. ⌜ r ≡ same (shortText (now (file .entry)) i) (bytes "2.0") ⌝ }
+{
+    match single_text::single_text(file, i) {
+        Single::Part(a, b) => is_version(&file[a..b]),
+        Single::Pieces => has_joined_version(file, i),
+    }
 }
 
 // Has the element at i a text that its kind may not have?

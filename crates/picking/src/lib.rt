@@ -7,6 +7,7 @@ ghost use Rattle.values.specs.Values.{worth};
 ghost use Rattle.walk.specs.Text.{trimmed};
 ghost use Rattle.schema.specs.Schema.{_to_};
 ghost use Rattle.element.specs.Steps.{numbered, valueAt};
+use single_text::Single;
 use values::Sort;
 use values::Worth;
 use walk::Part;
@@ -29,13 +30,23 @@ fn number_in(text: &[u8]) -> Worth
     worth::worth_of(sort, &text[a..e])
 }
 
-// The channel that the text of the element at i names.
-pub fn channel_number(file: &[u8], i: usize) -> Worth
+// The channel that the text of the element at i names, its pieces joined in a buffer.
+fn joined_number(file: &[u8], i: usize) -> Worth
     ensures { λ r. ⌜ r ≡ numbered (now (file .entry)) i ⌝ }
 {
     let mut text = [0; 32768];
     let n = gathering::gather_text(file, i, &mut text);
     number_in(&text[..n])
+}
+
+// The channel that the text of the element at i names. Nearly every text is one piece, and is read where it stands.
+pub fn channel_number(file: &[u8], i: usize) -> Worth
+    ensures { λ r. ⌜ r ≡ numbered (now (file .entry)) i ⌝ }
+{
+    match single_text::single_text(file, i) {
+        Single::Part(a, b) => number_in(&file[a..b]),
+        Single::Pieces => joined_number(file, i),
+    }
 }
 
 // The value of the attribute of that name of the element at i; nothing at 0 if it has none.

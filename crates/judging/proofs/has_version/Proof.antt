@@ -3,38 +3,54 @@ use borrow.Author.Needs.{needs}
 use Rattle.judging.proofs.has_version.Statement.{statement}
 use Rattle.judging.proofs.has_version.Tie as tie
 use Prim.Native.Nat.{ℕ}
-use mathlib.Core.Path.{ap, _∙_}
+use mathlib.Core.Path.{ap, sym, _∙_}
 use mathlib.Core.List.{List}
-use lib.ListN.{length-replicate}
+use native.Mathlib.Omega.{arith}
 use Rattle.ascii.specs.Texts.{bytes, same}
 use Rattle.walk.specs.Text.{trimmed}
-use Rattle.picking.proofs.Texts.{laid-within, laid-count, laid-taken}
+use Rattle.single_text.proofs.Laws.{single-bounds, single-part}
 
-slice-aggregate-gather-text : tie.Need-slice-aggregate-gather-text
-slice-aggregate-gather-text c = search needs
+single-text-requires : tie.Need-single-text-requires
+single-text-requires c κs = search needs
 
-gather-text-requires : tie.Need-gather-text-requires
-gather-text-requires c κs = search needs
+enum-known-a : tie.Need-enum-known-a
+enum-known-a c = search needs
 
-array-share-prefix-spelt : tie.Need-array-share-prefix-spelt
-array-share-prefix-spelt c = laid-within _ _ _ _ (c .before .gather-text .ensures)
+sub-is-version : tie.Need-sub-is-version
+sub-is-version c = let h = single-bounds (c .before .before .before .before .before .args .file .now) (c .before .before .before .before .before .args .i) _ _ (sym (c .before .before .before .single-text .ensures) ∙ c .before .a .given .1) in omega (arith, h .0)
 
-slice-aggregate-is-version : tie.Need-slice-aggregate-is-version
-slice-aggregate-is-version c = laid-count _ _ _ _ (c .before .before .gather-text .ensures)
+part-is-version-start : tie.Need-part-is-version-start
+part-is-version-start c = let h = single-bounds (c .before .before .before .before .before .args .file .now) (c .before .before .before .before .before .args .i) _ _ (sym (c .before .before .before .single-text .ensures) ∙ c .before .a .given .1) in omega (arith, h .0, h .1)
+
+part-is-version-end : tie.Need-part-is-version-end
+part-is-version-end c = let h = single-bounds (c .before .before .before .before .before .args .file .now) (c .before .before .before .before .before .args .i) _ _ (sym (c .before .before .before .single-text .ensures) ∙ c .before .a .given .1) in omega (arith, h .0, h .1)
 
 is-version-requires : tie.Need-is-version-requires
 is-version-requires c κs = search needs
 
+enum-told : tie.Need-enum-told
+enum-told c = search needs
+
+has-joined-version-requires : tie.Need-has-joined-version-requires
+has-joined-version-requires c κs = search needs
+
 returns : tie.Need-returns
-returns c = c .is-version .ensures ∙ ap (λ (s : List ℕ). same (trimmed s) (bytes "2.0")) (laid-taken _ _ _ _ (c .before .before .before .gather-text .ensures) 32768 (length-replicate {A = ℕ} 32768 0))
+returns c = c .is-version .ensures ∙ ap (λ (s : List ℕ). same (trimmed s) (bytes "2.0")) (single-part (c .before .before .before .before .before .before .before .args .file .now) (c .before .before .before .before .before .before .before .args .i) _ _ (sym (c .before .before .before .before .before .single-text .ensures) ∙ c .before .before .before .a .given .1))
+
+returns-2 : tie.Need-returns-2
+returns-2 c = search needs
 
 pub has-version-spec : {M : Type 1} → statement M
 has-version-spec =
     tie.close
     (tie.spec
-    slice-aggregate-gather-text
-    gather-text-requires
-    array-share-prefix-spelt
-    slice-aggregate-is-version
+    single-text-requires
+    enum-known-a
+    sub-is-version
+    part-is-version-start
+    part-is-version-end
     is-version-requires
-    returns)
+    enum-told
+    has-joined-version-requires
+    returns
+    returns-2)

@@ -3,39 +3,55 @@ use borrow.Author.Needs.{needs}
 use Rattle.picking.proofs.channel_number.Statement.{statement}
 use Rattle.picking.proofs.channel_number.Tie as tie
 use Prim.Native.Nat.{ℕ}
-use mathlib.Core.Path.{ap, _∙_}
+use mathlib.Core.Path.{ap, sym, _∙_}
 use mathlib.Core.List.{List}
-use lib.ListN.{length-replicate}
+use native.Mathlib.Omega.{arith}
 use Rattle.values.specs.Values.{worth}
 use Rattle.schema.specs.Schema.{_to_}
 use Rattle.walk.specs.Text.{trimmed}
-use Rattle.picking.proofs.Texts.{laid-within, laid-count, laid-taken}
+use Rattle.single_text.proofs.Laws.{single-bounds, single-part}
 
-slice-aggregate-gather-text : tie.Need-slice-aggregate-gather-text
-slice-aggregate-gather-text c = search needs
+single-text-requires : tie.Need-single-text-requires
+single-text-requires c κs = search needs
 
-gather-text-requires : tie.Need-gather-text-requires
-gather-text-requires c κs = search needs
+enum-known-a : tie.Need-enum-known-a
+enum-known-a c = search needs
 
-array-share-prefix-text : tie.Need-array-share-prefix-text
-array-share-prefix-text c = laid-within _ _ _ _ (c .before .gather-text .ensures)
+sub-number-in : tie.Need-sub-number-in
+sub-number-in c = let h = single-bounds (c .before .before .before .before .before .args .file .now) (c .before .before .before .before .before .args .i) _ _ (sym (c .before .before .before .single-text .ensures) ∙ c .before .a .given .1) in omega (arith, h .0)
 
-slice-aggregate-number-in : tie.Need-slice-aggregate-number-in
-slice-aggregate-number-in c = laid-count _ _ _ _ (c .before .before .gather-text .ensures)
+part-number-in-start : tie.Need-part-number-in-start
+part-number-in-start c = let h = single-bounds (c .before .before .before .before .before .args .file .now) (c .before .before .before .before .before .args .i) _ _ (sym (c .before .before .before .single-text .ensures) ∙ c .before .a .given .1) in omega (arith, h .0, h .1)
+
+part-number-in-end : tie.Need-part-number-in-end
+part-number-in-end c = let h = single-bounds (c .before .before .before .before .before .args .file .now) (c .before .before .before .before .before .args .i) _ _ (sym (c .before .before .before .single-text .ensures) ∙ c .before .a .given .1) in omega (arith, h .0, h .1)
 
 number-in-requires : tie.Need-number-in-requires
 number-in-requires c κs = search needs
 
+enum-told : tie.Need-enum-told
+enum-told c = search needs
+
+joined-number-requires : tie.Need-joined-number-requires
+joined-number-requires c κs = search needs
+
 returns : tie.Need-returns
-returns c = c .number-in .ensures ∙ ap (λ (s : List ℕ). worth (0 to 4) (trimmed s)) (laid-taken _ _ _ _ (c .before .before .before .gather-text .ensures) 32768 (length-replicate {A = ℕ} 32768 0))
+returns c = c .number-in .ensures ∙ ap (λ (s : List ℕ). worth (0 to 4) (trimmed s)) (single-part (c .before .before .before .before .before .before .before .args .file .now) (c .before .before .before .before .before .before .before .args .i) _ _ (sym (c .before .before .before .before .before .single-text .ensures) ∙ c .before .before .before .a .given .1))
+
+returns-2 : tie.Need-returns-2
+returns-2 c = search needs
 
 pub channel-number-spec : {M : Type 1} → statement M
 channel-number-spec =
     tie.close
     (tie.spec
-    slice-aggregate-gather-text
-    gather-text-requires
-    array-share-prefix-text
-    slice-aggregate-number-in
+    single-text-requires
+    enum-known-a
+    sub-number-in
+    part-number-in-start
+    part-number-in-end
     number-in-requires
-    returns)
+    enum-told
+    joined-number-requires
+    returns
+    returns-2)
