@@ -7,14 +7,22 @@ use Rattle.records.specs.declared.Trigger.{Trigger}
 use Rattle.rules.specs.declared.Firing.{Firing}
 use Rattle.rules.specs.Rules.{Event, timeOf, fires, lasts}
 use Rattle.firing.specs.declared.Fired.{Fired}
+use Rattle.firing.specs.declared.Turn.{Turn}
 
 abbrev pub never : Firing
 never = record { ever = false; at = 0 }
 
+-- one trigger's turn, from its last firing
+abbrev pub turnOf : Trigger → Bool → Event → Firing → Turn
+turnOf t first e l = record {
+  last = cond (fires first e (t .cause)) (record { ever = true; at = timeOf e }) l;
+  on = fires first e (t .cause) || lasts (timeOf e) l (t .timeout);
+}
+
 unfoldable pub fireOne : Trigger → Bool → Event → ℕ → Fired → Fired
 fireOne t first e i s = record {
-  last = set (s .last) i (cond (fires first e (t .cause)) (record { ever = true; at = timeOf e }) (getD (s .last) i never));
-  states = set (s .states) i (fires first e (t .cause) || lasts (timeOf e) (getD (s .last) i never) (t .timeout));
+  last = set (s .last) i (turnOf t first e (getD (s .last) i never) .last);
+  states = set (s .states) i (turnOf t first e (getD (s .last) i never) .on);
 }
 
 unfoldable pub fireAll : List Trigger → Bool → Event → ℕ → Fired → Fired

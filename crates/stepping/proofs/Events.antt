@@ -15,7 +15,6 @@ use Rattle.loader.specs.declared.Layout.{Layout}
 use Rattle.rows.specs.Rows.{rowsOf}
 use Rattle.rows.proofs.Laws.{few-rows}
 use Rattle.rules.specs.declared.Frame.{Frame}
-use Rattle.rules.specs.declared.Firing.{Firing}
 use Rattle.rules.specs.declared.Logging.{Logging}
 use Rattle.rules.specs.declared.Engine.{Engine}
 use Rattle.rules.specs.declared.Counts.{Counts}
@@ -47,10 +46,9 @@ module _ (ws : List ℕ) where
   pub few-triggers : length (triggersIn ws) ≤ 32
   few-triggers = few-rows triggerSize triggerAt 32 (getD ws 3 0) (drop 6 ws)
 
-  pub fires-from : (en : Engine) (e : Event) (last : List Firing) (n : ℕ) (rest : List ℕ) → last ≡ en .fired → n ≡ getD ws 3 0 → rest ≡ drop 6 ws
-      → fireAll (rowsOf triggerSize triggerAt 32 n rest) (not (en .started)) e 0 (record { last = last; states = replicate 32 false })
-      ≡ fireAll (triggersIn ws) (not (en .started)) e 0 (record { last = en .fired; states = replicate 32 false })
-  fires-from en e last n rest a b c = rw (a, b, c)
+  pub fires-from : (first : Bool) (e : Event) (s : Fired) (n : ℕ) (rest : List ℕ) → n ≡ getD ws 3 0 → rest ≡ drop 6 ws
+      → fireAll (rowsOf triggerSize triggerAt 32 n rest) first e 0 s ≡ fireAll (triggersIn ws) first e 0 s
+  fires-from first e s n rest b c = rw (b, c)
 
   module _ (lay : Layout) where
     pub few-statements : length (statementsIn ws lay) ≤ 16
@@ -70,7 +68,7 @@ timely u acted l h = rw (le-leb u 10000000000000000 h)
 
 -- ---- steps 5 to 7
 module _ (p : Plan) (en : Engine) (l : Logging) (b : Bool) (f : Frame) (few-triggers : length (p .triggers) ≤ 32) (few-statements : length (p .statements) ≤ 16)
-    (was : List Bool) (was-is : was ≡ en .truth) (many-truths : length was ≡ 16)
+    (many-truths : length (en .truth) ≡ 16)
     (fired : Fired) (fires : fired ≡ fireAll (p .triggers) (not (en .started)) (eventOf b f) 0 (record { last = en .fired; states = replicate 32 false })) (many-fired : length (en .fired) ≡ 32) where
   fired-is : fired ≡ record { last = firings (p .triggers) (not (en .started)) (eventOf b f) (en .fired); states = states (p .triggers) (not (en .started)) (eventOf b f) (en .fired) ++ replicate (32 - length (p .triggers)) false }
   fired-is =
@@ -78,15 +76,14 @@ module _ (p : Plan) (en : Engine) (l : Logging) (b : Bool) (f : Frame) (few-trig
       ∙ all-fired (not (en .started)) (eventOf b f) (p .triggers) [] (en .fired) [] (replicate 32 false) 0 refl refl (omega arith) (omega (arith, length-replicate 32 false))
       ∙ rw (drop-falses (length (p .triggers)) 32) refl
 
-  module _ (ev : Evaluated) (evaluates : ev ≡ evaluateAll (map statementOf (p .statements)) (fired .states) 0 (record { ok = true; truth = was })) where
+  module _ (ev : Evaluated) (evaluates : ev ≡ evaluateAll (map statementOf (p .statements)) (fired .states) 0 (record { ok = true; truth = en .truth })) where
     ev-is : Evaluates (evaluated (map statementOf (p .statements)) (states (p .triggers) (not (en .started)) (eventOf b f) (en .fired))) [] (en .truth) ev
     ev-is =
         rw (← evaluated-padded (p .statements) (states (p .triggers) (not (en .started)) (eventOf b f) (en .fired)) (32 - length (p .triggers)))
         (subst (λ (x : Evaluated). Evaluates (evaluated (map statementOf (p .statements)) (states (p .triggers) (not (en .started)) (eventOf b f) (en .fired) ++ replicate (32 - length (p .triggers)) false)) [] (en .truth) x)
-        (sym (evaluates ∙ ap (λ (x : List Bool). evaluateAll (map statementOf (p .statements)) (fired .states) 0 (record { ok = true; truth = x })) was-is
-        ∙ ap (λ (x : Fired). evaluateAll (map statementOf (p .statements)) (x .states) 0 (record { ok = true; truth = en .truth })) fired-is))
+        (sym (evaluates ∙ ap (λ (x : Fired). evaluateAll (map statementOf (p .statements)) (x .states) 0 (record { ok = true; truth = en .truth })) fired-is))
         (all-evaluated (map statementOf (p .statements)) (states (p .triggers) (not (en .started)) (eventOf b f) (en .fired) ++ replicate (32 - length (p .triggers)) false) [] (en .truth) 0 refl
-        (omega (arith, length-map (p .statements) statementOf, ap length was-is))))
+        (omega (arith, length-map (p .statements) statementOf))))
 
     of-fault : (o : Option (List Bool)) → Evaluates o [] (en .truth) ev → ev .ok ≡ false → record { answer = answers.Refused 25; engine = en } ≡ steppedOf en (acted (configOf p) en l (eventOf b f) o)
     of-fault none h n = refl
@@ -96,16 +93,15 @@ module _ (p : Plan) (en : Engine) (l : Logging) (b : Bool) (f : Frame) (few-trig
     unfolding triggered
     trigger-faults n = of-fault (evaluated (map statementOf (p .statements)) (states (p .triggers) (not (en .started)) (eventOf b f) (en .fired))) ev-is (not-true (ev .ok) n)
 
-    module _ (acts : Logging) (early : f .time ≤ 10000000000000000) (e0 : acts ≡ inTime (f .time) (actRisen (map statementOf (p .statements)) (f .time) was (ev .truth) 0 l) l) where
+    module _ (acts : Logging) (early : f .time ≤ 10000000000000000) (e0 : acts ≡ inTime (f .time) (actRisen (map statementOf (p .statements)) (f .time) (en .truth) (ev .truth) 0 l) l) where
       acts-is : (now : List Bool) → ev ≡ record { ok = true; truth = now ++ drop (length now) (en .truth) } → length now ≡ length (p .statements)
           → acts ≡ actions (map statementOf (p .statements)) (f .time) (zipWith (λ v was. v && not was) now (en .truth)) l
       acts-is now h n =
           e0
           ∙ timely (f .time) _ l early
-          ∙ ap (λ (x : List Bool). actRisen (map statementOf (p .statements)) (f .time) x (ev .truth) 0 l) was-is
           ∙ ap (λ (x : Evaluated). actRisen (map statementOf (p .statements)) (f .time) (en .truth) (x .truth) 0 l) h
           ∙ all-acted (map statementOf (p .statements)) (f .time) (en .truth) (now ++ drop (length now) (en .truth)) 0 l
-          (omega (arith, length-map (p .statements) statementOf, ap length was-is)) (simp (length-append, length-drop) (omega (arith, length-map (p .statements) statementOf, ap length was-is)))
+          (omega (arith, length-map (p .statements) statementOf)) (simp (length-append, length-drop) (omega (arith, length-map (p .statements) statementOf)))
           ∙ acts-only (map statementOf (p .statements)) (f .time) now (drop (length now) (en .truth)) (en .truth) l (n ∙ sym (length-map (p .statements) statementOf))
 
       of-end : (o : Option (List Bool)) → evaluated (map statementOf (p .statements)) (states (p .triggers) (not (en .started)) (eventOf b f) (en .fired)) ≡ o → Evaluates o [] (en .truth) ev → ev .ok ≡ true

@@ -6,7 +6,7 @@
 ghost use mathlib.Core.Path.{_≡_};
 ghost use mathlib.Core.Bool.{false, not};
 ghost use Prim.Native.Nat.{_≤_};
-ghost use lib.ListN.{length, replicate};
+ghost use lib.ListN.{replicate};
 ghost use Rattle.rules.specs.Rules.{Event, frame, tick, passes, answered, triggered, process};
 ghost use Rattle.rules.specs.Calls.{full, counted, step, configOf};
 ghost use Rattle.rules.specs.Steps.{eventOf};
@@ -52,19 +52,6 @@ fn answer_with(en: Engine, l: Logging, ticks: bool, f: Frame, a: Answer) -> Step
     Stepped { answer, engine }
 }
 
-// The last firings and the last truths, and how many there are of each.
-fn firings_of(en: Engine) -> [Firing; 32]
-    ensures { λ r. ⌜ (r ≡ en .fired) × (length r ≡ 32) ⌝ }
-{
-    en.fired
-}
-
-fn truths_of(en: Engine) -> [bool; 16]
-    ensures { λ r. ⌜ (r ≡ en .truth) × (length r ≡ 16) ⌝ }
-{
-    en.truth
-}
-
 // Step 7, on what the statements left.
 fn settle(fired: Fired, truth: [bool; 16], acted: Logging, ticks: bool, u: u64) -> Stepped
     ensures { λ r. ⌜ r ≡ settledAt fired truth acted ticks u ⌝ }
@@ -82,17 +69,16 @@ fn settle(fired: Fired, truth: [bool; 16], acted: Logging, ticks: bool, u: u64) 
     Stepped { answer, engine }
 }
 
-fn fire_triggers(words: &[u32], en: Engine, ticks: bool, f: Frame) -> Fired
-    ensures { λ r. ⌜ (r ≡ fireAll (triggersIn (now (words .entry))) (not (en .started)) (eventOf ticks f) 0 (record { last = en .fired; states = replicate 32 false })) × (length (en .fired) ≡ 32) ⌝ }
+fn fire_triggers(words: &[u32], last: [Firing; 32], first: bool, ticks: bool, f: Frame) -> Fired
+    ensures { λ r. ⌜ r ≡ fireAll (triggersIn (now (words .entry))) first (eventOf ticks f) 0 (record { last = last; states = replicate 32 false }) ⌝ }
 {
-    let last = firings_of(en);
     let start = Fired {
         last,
         states: [false; 32],
     };
     let count = records::word(words, 3);
     let triggers = rows::tail(words, 6);
-    firing::fire_all(triggers, count, !en.started, ticks, f, start)
+    firing::fire_all(triggers, count, first, ticks, f, start)
 }
 
 // Steps 5 to 7.
@@ -107,8 +93,9 @@ fn trigger_event(
     requires { ⌜ f .time ≤ 10000000000000000 ⌝ }
     ensures { λ r. ⌜ r ≡ steppedOf en (triggered (configOf (planBy (now (words .entry)) lay)) en l (eventOf ticks f)) ⌝ }
 {
-    let was = truths_of(en);
-    let fired = fire_triggers(words, en, ticks, f);
+    let was = en.truth;
+    let last = en.fired;
+    let fired = fire_triggers(words, last, !en.started, ticks, f);
     let states = fired.states;
     let begin = Evaluated {
         ok: true,

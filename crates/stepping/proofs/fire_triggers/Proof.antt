@@ -2,12 +2,8 @@
 use borrow.Author.Needs.{needs}
 use Rattle.stepping.proofs.fire_triggers.Statement.{statement}
 use Rattle.stepping.proofs.fire_triggers.Tie as tie
-use mathlib.Core.Path.{sym, _∙_, ap}
-use lib.ListN.{length}
+use mathlib.Core.Path.{_∙_}
 use Rattle.stepping.proofs.Events.{fires-from}
-
-firings-of-requires : tie.Need-firings-of-requires
-firings-of-requires c κs = search needs
 
 word-requires : tie.Need-word-requires
 word-requires c κs = search needs
@@ -19,8 +15,7 @@ fire-all-requires : tie.Need-fire-all-requires
 fire-all-requires c κs = search needs
 
 returns : tie.Need-returns
-returns c = (c .fire-all .ensures ∙ fires-from (c .before .before .before .before .before .before .args .words .now) (c .before .before .before .before .before .before .args .en) _ _ _ _ (c .before .before .before .before .firings-of .ensures .0) (c .before .before .before .word .ensures) (c .before .before .tail .ensures), ap length (sym (c .before .before .before .before .firings-of .ensures .0)) ∙ c .before .before .before .before .firings-of .ensures .1)
+returns c = c .fire-all .ensures ∙ fires-from (c .before .before .before .before .args .words .now) _ _ _ _ _ (c .before .before .word .ensures) (c .before .tail .ensures)
 
 pub fire-triggers-spec : {M : Type 1} → statement M
-fire-triggers-spec =
-    tie.close (tie.spec firings-of-requires word-requires tail-requires fire-all-requires returns)
+fire-triggers-spec = tie.close (tie.spec word-requires tail-requires fire-all-requires returns)

@@ -1,13 +1,11 @@
--- `trigger_event`: steps 5 to 7, from what each function gave.
+-- `trigger_event`: steps 5 to 7, from what each function gave. The lengths of the arrays in `en` stand in what its type says of it.
 use borrow.Author.Needs.{needs}
 use Rattle.stepping.proofs.trigger_event.Statement.{statement}
 use Rattle.stepping.proofs.trigger_event.Tie as tie
-use mathlib.Core.Path.{_∙_}
+use mathlib.Core.Path.{sym, _∙_}
+use lib.ListN.{length-map}
 use Rattle.stepping.specs.Steps.{planBy}
 use Rattle.stepping.proofs.Events.{few-triggers, few-statements, evaluates-in, acts-in, trigger-faults, trigger-ends}
-
-truths-of-requires : tie.Need-truths-of-requires
-truths-of-requires c κs = search needs
 
 fire-triggers-requires : tie.Need-fire-triggers-requires
 fire-triggers-requires c κs = search needs
@@ -22,7 +20,7 @@ evaluate-all-requires : tie.Need-evaluate-all-requires
 evaluate-all-requires c κs = search needs
 
 returns : tie.Need-returns
-returns c = trigger-faults (planBy (c .before .before .before .before .before .before .before .before .before .args .words .now) (c .before .before .before .before .before .before .before .before .before .args .lay)) (c .before .before .before .before .before .before .before .before .before .args .en) (c .before .before .before .before .before .before .before .before .before .args .l) (c .before .before .before .before .before .before .before .before .before .args .ticks) (c .before .before .before .before .before .before .before .before .before .args .f) (few-triggers (c .before .before .before .before .before .before .before .before .before .args .words .now)) (few-statements (c .before .before .before .before .before .before .before .before .before .args .words .now) (c .before .before .before .before .before .before .before .before .before .args .lay)) (c .before .before .before .before .before .before .before .truths-of .result) (c .before .before .before .before .before .before .before .truths-of .ensures .0) (c .before .before .before .before .before .before .before .truths-of .ensures .1) (c .before .before .before .before .before .before .fire-triggers .result) (c .before .before .before .before .before .before .fire-triggers .ensures .0) (c .before .before .before .before .before .before .fire-triggers .ensures .1) (c .before .before .evaluate-all .result) (c .before .before .evaluate-all .ensures ∙ evaluates-in (c .before .before .before .before .before .before .before .before .before .args .words .now) (c .before .before .before .before .before .before .before .before .before .args .lay) _ _ _ _ (c .before .before .before .before .word .ensures) (c .before .before .before .tail .ensures)) (c .if1 .taken)
+returns c = trigger-faults (planBy (c .before .before .before .before .before .before .before .before .before .before .before .args .words .now) (c .before .before .before .before .before .before .before .before .before .before .before .args .lay)) (c .before .before .before .before .before .before .before .before .before .before .before .args .en) (c .before .before .before .before .before .before .before .before .before .before .before .args .l) (c .before .before .before .before .before .before .before .before .before .before .before .args .ticks) (c .before .before .before .before .before .before .before .before .before .before .before .args .f) (few-triggers (c .before .before .before .before .before .before .before .before .before .before .before .args .words .now)) (few-statements (c .before .before .before .before .before .before .before .before .before .before .before .args .words .now) (c .before .before .before .before .before .before .before .before .before .before .before .args .lay)) (sym (length-map (c .before .before .before .before .before .before .before .before .before .before .before .args .en .truth) _) ∙ c .before .before .before .before .before .before .before .before .before .before .before .good .1 .1 .0 .1 .1 .1 .1 .0 .1 .0 .1) (c .before .before .before .before .before .before .fire-triggers .result) (c .before .before .before .before .before .before .fire-triggers .ensures) (sym (length-map (c .before .before .before .before .before .before .before .before .before .before .before .args .en .fired) _) ∙ c .before .before .before .before .before .before .before .before .before .before .before .good .1 .1 .0 .1 .1 .1 .0 .1 .0 .1) (c .before .before .evaluate-all .result) (c .before .before .evaluate-all .ensures ∙ evaluates-in (c .before .before .before .before .before .before .before .before .before .before .before .args .words .now) (c .before .before .before .before .before .before .before .before .before .before .before .args .lay) _ _ _ _ (c .before .before .before .before .word .ensures) (c .before .before .before .tail .ensures)) (c .if1 .taken)
 
 act-risen-requires : tie.Need-act-risen-requires
 act-risen-requires c κs = search needs
@@ -31,13 +29,12 @@ settle-requires : tie.Need-settle-requires
 settle-requires c κs = search needs
 
 returns-2 : tie.Need-returns-2
-returns-2 c = c .settle .ensures ∙ trigger-ends (planBy (c .before .before .before .before .before .before .before .before .before .before .before .before .args .words .now) (c .before .before .before .before .before .before .before .before .before .before .before .before .args .lay)) (c .before .before .before .before .before .before .before .before .before .before .before .before .args .en) (c .before .before .before .before .before .before .before .before .before .before .before .before .args .l) (c .before .before .before .before .before .before .before .before .before .before .before .before .args .ticks) (c .before .before .before .before .before .before .before .before .before .before .before .before .args .f) (few-triggers (c .before .before .before .before .before .before .before .before .before .before .before .before .args .words .now)) (few-statements (c .before .before .before .before .before .before .before .before .before .before .before .before .args .words .now) (c .before .before .before .before .before .before .before .before .before .before .before .before .args .lay)) (c .before .before .before .before .before .before .before .before .before .before .truths-of .result) (c .before .before .before .before .before .before .before .before .before .before .truths-of .ensures .0) (c .before .before .before .before .before .before .before .before .before .before .truths-of .ensures .1) (c .before .before .before .before .before .before .before .before .before .fire-triggers .result) (c .before .before .before .before .before .before .before .before .before .fire-triggers .ensures .0) (c .before .before .before .before .before .before .before .before .before .fire-triggers .ensures .1) (c .before .before .before .before .before .evaluate-all .result) (c .before .before .before .before .before .evaluate-all .ensures ∙ evaluates-in (c .before .before .before .before .before .before .before .before .before .before .before .before .args .words .now) (c .before .before .before .before .before .before .before .before .before .before .before .before .args .lay) _ _ _ _ (c .before .before .before .before .before .before .before .word .ensures) (c .before .before .before .before .before .before .tail .ensures)) (c .before .act-risen .result) (c .before .before .before .before .before .before .before .before .before .before .before .before .pre) (c .before .act-risen .ensures ∙ acts-in (c .before .before .before .before .before .before .before .before .before .before .before .before .args .words .now) (c .before .before .before .before .before .before .before .before .before .before .before .before .args .lay) _ _ (c .before .before .before .before .before .before .before .before .before .before .before .before .args .f .time) (c .before .before .before .before .before .before .before .before .before .before .truths-of .result) (c .before .before .before .before .before .evaluate-all .result .truth) (c .before .before .before .before .before .before .before .before .before .before .before .before .args .l) (c .before .before .before .before .before .before .before .word .ensures) (c .before .before .before .before .before .before .tail .ensures)) (c .before .before .before .if1 .left)
+returns-2 c = c .settle .ensures ∙ trigger-ends (planBy (c .before .before .before .before .before .before .before .before .before .before .before .before .before .before .args .words .now) (c .before .before .before .before .before .before .before .before .before .before .before .before .before .before .args .lay)) (c .before .before .before .before .before .before .before .before .before .before .before .before .before .before .args .en) (c .before .before .before .before .before .before .before .before .before .before .before .before .before .before .args .l) (c .before .before .before .before .before .before .before .before .before .before .before .before .before .before .args .ticks) (c .before .before .before .before .before .before .before .before .before .before .before .before .before .before .args .f) (few-triggers (c .before .before .before .before .before .before .before .before .before .before .before .before .before .before .args .words .now)) (few-statements (c .before .before .before .before .before .before .before .before .before .before .before .before .before .before .args .words .now) (c .before .before .before .before .before .before .before .before .before .before .before .before .before .before .args .lay)) (sym (length-map (c .before .before .before .before .before .before .before .before .before .before .before .before .before .before .args .en .truth) _) ∙ c .before .before .before .before .before .before .before .before .before .before .before .before .before .before .good .1 .1 .0 .1 .1 .1 .1 .0 .1 .0 .1) (c .before .before .before .before .before .before .before .before .before .fire-triggers .result) (c .before .before .before .before .before .before .before .before .before .fire-triggers .ensures) (sym (length-map (c .before .before .before .before .before .before .before .before .before .before .before .before .before .before .args .en .fired) _) ∙ c .before .before .before .before .before .before .before .before .before .before .before .before .before .before .good .1 .1 .0 .1 .1 .1 .0 .1 .0 .1) (c .before .before .before .before .before .evaluate-all .result) (c .before .before .before .before .before .evaluate-all .ensures ∙ evaluates-in (c .before .before .before .before .before .before .before .before .before .before .before .before .before .before .args .words .now) (c .before .before .before .before .before .before .before .before .before .before .before .before .before .before .args .lay) _ _ _ _ (c .before .before .before .before .before .before .before .word .ensures) (c .before .before .before .before .before .before .tail .ensures)) (c .before .act-risen .result) (c .before .before .before .before .before .before .before .before .before .before .before .before .before .before .pre) (c .before .act-risen .ensures ∙ acts-in (c .before .before .before .before .before .before .before .before .before .before .before .before .before .before .args .words .now) (c .before .before .before .before .before .before .before .before .before .before .before .before .before .before .args .lay) _ _ (c .before .before .before .before .before .before .before .before .before .before .before .before .before .before .args .f .time) (c .before .before .before .before .before .before .before .before .before .before .before .before .before .before .args .en .truth) (c .before .before .before .before .before .evaluate-all .result .truth) (c .before .before .before .before .before .before .before .before .before .before .before .before .before .before .args .l) (c .before .before .before .before .before .before .before .word .ensures) (c .before .before .before .before .before .before .tail .ensures)) (c .before .before .before .if1 .left)
 
 pub trigger-event-spec : {M : Type 1} → statement M
 trigger-event-spec =
     tie.close
     (tie.spec
-    truths-of-requires
     fire-triggers-requires
     word-requires
     tail-requires

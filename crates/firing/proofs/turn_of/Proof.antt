@@ -1,0 +1,30 @@
+-- `turn_of`: one trigger, read off its record.
+use borrow.Author.Needs.{needs}
+use Rattle.firing.proofs.turn_of.Statement.{statement}
+use Rattle.firing.proofs.turn_of.Tie as tie
+use Rattle.firing.proofs.Ties.{time-is}
+
+trigger-at-requires : tie.Need-trigger-at-requires
+trigger-at-requires c κs = search needs
+
+trigger-fires-requires : tie.Need-trigger-fires-requires
+trigger-fires-requires c κs = search needs
+
+trigger-lasts-requires : tie.Need-trigger-lasts-requires
+trigger-lasts-requires c κs = search needs
+
+firing-after-requires : tie.Need-firing-after-requires
+firing-after-requires c κs = search needs
+
+returns : tie.Need-returns
+returns c = rw (time-is (c .before .before .before .before .before .args .ticks) (c .before .before .before .before .before .args .f), c .firing-after .ensures, c .before .before .trigger-fires .ensures, c .before .trigger-lasts .ensures, c .before .before .before .trigger-at .ensures)
+
+pub turn-of-spec : {M : Type 1} → statement M
+turn-of-spec =
+    tie.close
+    (tie.spec
+    trigger-at-requires
+    trigger-fires-requires
+    trigger-lasts-requires
+    firing-after-requires
+    returns)
