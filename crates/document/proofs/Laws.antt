@@ -29,9 +29,8 @@ use Rattle.element.specs.Element.{Known, Fault, _at_if_, ownFaults}
 use Rattle.element.specs.Steps.{firstNumber}
 use Rattle.element_laws.proofs.Laws.{fault-place, no-fault}
 use Rattle.document.specs.declared.Index.{Index}
-use Rattle.document.specs.declared.Found.{Found}
 use Rattle.document.specs.Document.{gathered, known, knownIn, knownAt, lacks, elementFaults}
-use Rattle.document.specs.Steps.{absorbed, absorb, entered, refusal, empty, noEntry, entryOf, indexOf, noneSeen, isOver, childAt, visitFrom, noneFound, indexAt, indexed, Indexes}
+use Rattle.document.specs.Steps.{absorbed, absorb, entered, refusal, Found, empty, noEntry, entryOf, indexOf, noneSeen, isOver, childAt, visitFrom, noneFound, indexAt, indexed, Indexes}
 use Rattle.document.proofs.Absorbs.{absorb-still, absorb-enter, absorb-refuse}
 use Rattle.document.proofs.Seens.{seen-none}
 use Rattle.document.proofs.Visits.{Agrees, child-kind, visits}

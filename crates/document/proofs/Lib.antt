@@ -1,4 +1,6 @@
+pub mod Marks
 pub mod Turns
+pub mod Insides
 pub mod Seens
 pub mod Absorbs
 pub mod Visits

@@ -1,23 +1,25 @@
 -- Turns of the loop over what an element holds, and the ways through `visit`.
-use Prim.Native.Nat.{ℕ, zero, suc, _-_, _≤_, _<_}
+use Prim.Native.Nat.{ℕ, zero, suc, _-_, _<_}
 use native.Mathlib.Omega.{arith}
 use mathlib.Core.Path.{_≡_, refl, sym, ap, _∙_}
 use mathlib.Core.List.{List}
-use mathlib.Core.Bool.{Bool, true, false, not}
+use mathlib.Core.Bool.{Bool, true, false, not, cond, _&&_}
 use lib.ListN.{length}
 use borrow.Author.Tests.{eq-eqb, ne-eqb, not-true, not-false}
 use Rattle.walk.specs.declared.Item.{Item}
 use Rattle.walk.specs.declared.Body.{Body}
-use Rattle.walk.specs.Steps.{itemAt, contentAt, skipped, rootAt}
-use Rattle.walk.proofs.Bounds.{item-over, item-from, skipped-bounds}
-use Rattle.walk.proofs.Turns.{Turn, start, next, done, over}
+use Rattle.walk.specs.Steps.{itemAt, contentAt, skipped, rootAt, textOf, stray}
+use Rattle.walk.proofs.Bounds.{item-from, skipped-bounds}
+use Rattle.walk.proofs.Turns.{Turn, start, next, done}
 use Rattle.schema.specs.declared.Kind.{Kind}
 use Rattle.schema.specs.declared.Kind.the-variants.{File}
 use Rattle.schema.specs.Steps.{isCarried}
+use Rattle.element.specs.Steps.{worded, ownFault, tagFault}
+use Rattle.element_laws.proofs.Wordings.{fault-some, fault-text}
 use Rattle.document.specs.declared.Index.{Index}
-use Rattle.document.specs.declared.Found.{Found}
 use Rattle.document.specs.declared.Seen.{Seen}
-use Rattle.document.specs.Steps.{noneSeen, marked, isOver, closed, childAt, looked, faultAt, enteredFound, refusedFound, visitItems, visitBody, visitFrom, refusal, noneFound, indexAt, indexed}
+use Rattle.document.specs.declared.Walk.{Walk}
+use Rattle.document.specs.Steps.{Found, noneSeen, marked, isOver, closed, childAt, isBarred, looked, faultAt, tagFaultAt, enteredFound, refusedFound, visitItems, visitBody, visitFrom, refusal, noneFound, indexAt, indexed, found}
 
 -- the steps of the loop, by what stands next
 module _ (visit : ℕ → Kind → Bool → Found → Found) (f : List ℕ) (q : Kind) (j : ℕ) (s : Seen) (r : Found) where
@@ -37,15 +39,6 @@ module _ (visit : ℕ → Kind → Bool → Found → Found) (f : List ℕ) (q :
     pub visit-close : (k : ℕ) → Item.Close k ≡ itemAt f j → visitItems visit f q (suc n) j s r ≡ closed r q s
     unfolding visitItems
     visit-close k e = rw (← e, visitItems)
-
-    pub visit-broken : Item.Broken ≡ itemAt f j → visitItems visit f q (suc n) j s r ≡ r
-    unfolding visitItems
-    visit-broken e = rw (← e, visitItems)
-
-  pub visit-over : length f ≤ j → (n : ℕ) → visitItems visit f q n j s r ≡ r
-  unfolding visitItems
-  visit-over h zero = refl
-  visit-over h (suc n) = visit-broken n (sym (item-over f j h))
 
 -- the loop's invariant: from here the answer is the whole one
 abbrev pub VisitTurn : List ℕ → ℕ → Kind → ℕ → Seen → Found → Found → Type 0
@@ -70,19 +63,8 @@ module _ (f : List ℕ) (left : ℕ) (q : Kind) (j : ℕ) (s : Seen) (r whole : 
   pub on-close : (k : ℕ) (v : Found) → Item.Close k ≡ itemAt f j → v ≡ closed r q s → v ≡ whole
   on-close k v e x = done items (length f) j whole v t h (λ n. visit-close (visitFrom f left) f q j s r n k e ∙ sym x)
 
-  pub on-broken : Item.Broken ≡ itemAt f j → r ≡ whole
-  on-broken e = done items (length f) j whole r t h (λ n. visit-broken (visitFrom f left) f q j s r n e)
-
-pub on-end : (f : List ℕ) (left : ℕ) (q : Kind) (j : ℕ) (s : Seen) (r whole : Found) → VisitTurn f left q j s r whole → length f ≤ j → r ≡ whole
-on-end f left q j s r whole t h = over (λ n m. visitItems (visitFrom f left) f q n m s r) (length f) j whole r t (visit-over (visitFrom f left) f q j s r h)
-
--- the ways through `visit`: no depth left, not looked at, a fault, and inside
+-- the ways through `visit`: not looked at, a fault, and inside
 module _ (f : List ℕ) (i : ℕ) (k : Kind) (o : Bool) (r : Found) where
-  pub visit-deep : (left : ℕ) → left ≡ 0 → r ≡ visitFrom f left i k o r
-  unfolding visitFrom
-  visit-deep zero e = refl
-  visit-deep (suc d) e = absurd (omega arith)
-
   pub visit-past : (left : ℕ) (b : Bool) → b ≡ looked r k → not b ≡ true → r ≡ visitFrom f left i k o r
   unfolding visitFrom
   visit-past zero b e t = refl
@@ -101,6 +83,41 @@ module _ (f : List ℕ) (i : ℕ) (k : Kind) (o : Bool) (r : Found) where
         let l : suc d - 1 ≡ d = omega arith in
         z ∙ (rw (y, l) (rw (sym e ∙ not-false b t, ← g, eq-eqb n 0 x)))
 
+-- the fault of an element, by what its tag tells (m) and whether text that is not read is stray
+module _ (f : List ℕ) (i : ℕ) (k : Kind) (m : ℕ) where
+  fault-split : (a over : Bool) → a ≡ isBarred k → m ≡ tagFaultAt f i k over → m ≡ 0 → (tagFault k f i ≡ 0) × (faultAt f i k over ≡ ownFault k f i)
+  unfolding tagFaultAt faultAt
+  fault-split true over a e z = absurd (omega (arith, rw (← a) at e))
+  fault-split false true a e z = absurd (omega (arith, rw (← a) at e))
+  fault-split false false a e z = (sym (rw (← a) at e) ∙ z, rw (← a))
+
+  fault-kept : (a over : Bool) → a ≡ isBarred k → m ≡ tagFaultAt f i k over → (m ≡ 0 → ⊥) → faultAt f i k over ≡ 0 → ⊥
+  unfolding tagFaultAt faultAt
+  fault-kept true over a e h z = absurd (omega (arith, rw (← a) at z))
+  fault-kept false true a e h z = absurd (omega (arith, rw (← a) at z))
+  fault-kept false false a e h z = fault-some f i k (λ y. h (e ∙ rw (← a) y)) (rw (← a) at z)
+
+  module _ (over : Bool) (e : m ≡ tagFaultAt f i k over) where
+    pub tag-fault-kept : (m ≡ 0 → ⊥) → (n : ℕ) → n ≡ faultAt f i k over → n ≡ 0 → ⊥
+    tag-fault-kept h n g z = fault-kept (isBarred k) over refl e h (sym g ∙ z)
+
+    module _ (z : m ≡ 0) (w b : Bool) (hw : w ≡ worded k) (hb : b ≡ stray (textOf f i)) where
+      text-fault : faultAt f i k over ≡ cond (not w && b) 6 0
+      text-fault =
+          let t = fault-split (isBarred k) over refl e z in
+          t .1 ∙ rw (hw, hb) (fault-text f i k (t .0))
+
+      pub stray-fault : not w && b ≡ true → 6 ≡ faultAt f i k over
+      stray-fault t = sym (text-fault ∙ rw t)
+
+      pub no-fault : not w && b ≡ false → 0 ≡ faultAt f i k over
+      no-fault t = sym (text-fault ∙ rw t)
+
+-- behind a fault the marks tell nothing
+pub refused-same : (w : Walk) (ms ms′ : List ℕ) (n p : ℕ) → refusedFound (found w ms) n p ≡ refusedFound (found w ms′) n p
+unfolding found
+refused-same w ms ms′ n p = refl
+
 -- the ways through `visit_inside`
 module _ (f : List ℕ) (i left : ℕ) (k : Kind) (r : Found) (b : Body) (e : b ≡ contentAt f i) where
   abbrev whole : Found
@@ -115,18 +132,14 @@ module _ (f : List ℕ) (i left : ℕ) (k : Kind) (r : Found) (b : Body) (e : b 
   unfolding visitBody
   inside-empty o s v x y z = z ∙ (rw y (ap (visitBody (visitFrom f left) f k r) (sym x ∙ e)))
 
-  pub inside-broken : b ≡ Body.Broken → r ≡ whole
-  unfolding visitBody
-  inside-broken x = ap (visitBody (visitFrom f left) f k r) (sym x ∙ e)
-
 -- the ways through `index_whole`
 module _ (f : List ℕ) (root : ℕ) (k : Kind) (b : Bool) (e₁ : root ≡ rootAt f) (e₂ : k ≡ childAt f root File) (e₃ : b ≡ isCarried k) where
   root-carried : isCarried (childAt f (rootAt f) File) ≡ b
   root-carried = rw (e₃, e₂, e₁)
 
-  pub whole-known : b ≡ true → (n v : Found) (r : Index) → n ≡ noneFound → v ≡ visitFrom f 8 root k false n → r ≡ indexAt root v → r ≡ indexed f
+  pub whole-known : b ≡ true → (n v : Found) (r : Index) → n ≡ noneFound → (i : ℕ) → i ≡ root → v ≡ visitFrom f 8 i k false n → r ≡ indexAt root v → r ≡ indexed f
   unfolding indexed
-  whole-known t n v r x y z = z ∙ rw (y, x, e₂, e₁) (rw (root-carried ∙ t))
+  whole-known t n v r x i p y z = z ∙ rw (y, x, p, e₂, e₁) (rw (root-carried ∙ t))
 
   pub whole-other : b ≡ false → (r : Index) → r ≡ refusal 3 root → r ≡ indexed f
   unfolding indexed

@@ -1,17 +1,18 @@
 -- What the functions answer, for every input. Code-shaped; proofs/Laws.antt ties it to the definitions. Nothing here has to be believed.
-use Prim.Native.Nat.{ℕ, zero, suc, _+_, _-_, _≤_}
+use Prim.Native.Nat.{ℕ, zero, suc, _+_, _-_, _/_, _%_, _≤_}
 use mathlib.Core.Path.{_≡_}
 use mathlib.Core.Option.{some}
 use mathlib.Core.List.{List, [], _∷_, _++_, map}
 use mathlib.Core.Bool.{Bool, true, false, cond, _&&_, _||_}
 use lib.Dec.{leb, ltb, eqb}
-use lib.ListN.{length, getD, replicate, set}
+use lib.ListN.{length, getD, replicate, set, take}
 use lib.Seq.{slice}
 use Rattle.xml.specs.declared.Shape.{Shape}
 use Rattle.xml.specs.Shape.{Node, WellShaped, Shaped, refusalOf}
 use Rattle.walk.specs.declared.Item.{Item}
 use Rattle.walk.specs.declared.Body.{Body}
 use Rattle.walk.specs.Steps as walk
+use Rattle.walk.specs.Stands.{ElementAt}
 use Rattle.schema.specs.declared.Kind.{Kind}
 use Rattle.schema.specs.declared.Kind.the-variants.{File, Kvaser, Version, Settings, Mode, CanBus, Parameters, TriggerBlock, Triggers, MsgId, MsgDlc, ErrorFrame, Startup, Statements, Statement, Expression, Actions, StartLog, StopLog, StopLogCompletely, Filters, MessagePass, MessageStop, Channel, NotCarried, Unknown}
 use Rattle.schema.specs.declared.Times.{Times}
@@ -19,12 +20,18 @@ use Rattle.schema.specs.declared.Times.the-variants.{Once, OneTo, UpTo}
 use Rattle.schema.specs.Schema.{under}
 use Rattle.schema.specs.Steps.{nameOf, kinds, kindAmong, kindUnder, orderOf, isCarried}
 use Rattle.element.specs.Element.{Known, Fault, ownFaults}
-use Rattle.element.specs.Steps.{lacksFirst, ownFault, firstNumber}
+use Rattle.element.specs.Steps.{lacksFirst, ownFault, tagFault, firstNumber}
 use Rattle.document.specs.Document.{known, elementFaults}
 use Rattle.document.specs.declared.Entry.{Entry}
 use Rattle.document.specs.declared.Index.{Index}
-use Rattle.document.specs.declared.Found.{Found}
 use Rattle.document.specs.declared.Seen.{Seen}
+use Rattle.document.specs.declared.Walk.{Walk}
+use Rattle.document.specs.declared.Inside.{Inside}
+
+-- the index so far, and whether a required element lacks
+pub record Found : Type 0 where
+  pub index : Index
+  pub lacking : Bool
 
 abbrev pub noEntry : Entry
 noEntry = record { kind = File; place = 0 }
@@ -129,6 +136,10 @@ looked r k = eqb (r .index .number) 0 && (isCarried k || isBarred k)
 unfoldable pub faultAt : List ℕ → ℕ → Kind → Bool → ℕ
 faultAt f i k over = cond (isBarred k) 7 (cond over 4 (ownFault k f i))
 
+-- the same, stray text aside
+unfoldable pub tagFaultAt : List ℕ → ℕ → Kind → Bool → ℕ
+tagFaultAt f i k over = cond (isBarred k) 7 (cond over 4 (tagFault k f i))
+
 -- the items from j on, in an element of the kind q; n is more than there can be
 unfoldable pub visitItems : (ℕ → Kind → Bool → Found → Found) → List ℕ → Kind → ℕ → ℕ → Seen → Found → Found
 visitItems visit f q zero j s r = r
@@ -158,6 +169,68 @@ indexed f =
     cond (isCarried (childAt f (walk.rootAt f) File))
     (indexAt (walk.rootAt f) (visitFrom f 8 (walk.rootAt f) (childAt f (walk.rootAt f) File) false noneFound))
     (refusal 3 (walk.rootAt f))
+
+-- ---- the walk as the code keeps it: an entry is a mark, its place times 32 and the number of its kind
+unfoldable pub kindNumber : Kind → ℕ
+kindNumber File = 0
+kindNumber Kvaser = 1
+kindNumber Version = 2
+kindNumber Settings = 3
+kindNumber Mode = 4
+kindNumber CanBus = 5
+kindNumber Parameters = 6
+kindNumber TriggerBlock = 7
+kindNumber Triggers = 8
+kindNumber MsgId = 9
+kindNumber MsgDlc = 10
+kindNumber ErrorFrame = 11
+kindNumber Startup = 12
+kindNumber Statements = 13
+kindNumber Statement = 14
+kindNumber Expression = 15
+kindNumber Actions = 16
+kindNumber StartLog = 17
+kindNumber StopLog = 18
+kindNumber StopLogCompletely = 19
+kindNumber Filters = 20
+kindNumber MessagePass = 21
+kindNumber MessageStop = 22
+kindNumber Channel = 23
+kindNumber NotCarried = 24
+kindNumber Unknown = 25
+
+unfoldable pub kindOf : ℕ → Kind
+kindOf n = getD (File ∷ kinds ++ NotCarried ∷ []) n Unknown
+
+unfoldable pub entryFrom : ℕ → Entry
+entryFrom m = record { kind = kindOf (m % 32); place = m / 32 }
+
+-- the entries of the first n marks, and none behind them
+unfoldable pub entriesFrom : ℕ → List ℕ → List Entry
+entriesFrom n ms = map entryFrom (take n ms) ++ replicate (382 - n) noEntry
+
+unfoldable pub found : Walk → List ℕ → Found
+found w ms = record { index = record { number = w .number; place = w .place; count = w .count; entries = entriesFrom (w .count) ms }; lacking = w .lacking }
+
+-- an element stands at i, in which elements nest at most d deep, and there is room for every mark
+pub record Ready (f : List ℕ) (d i : ℕ) (ms : List ℕ) : Type 0 where
+  pub room : length ms ≡ 382
+  pub short : length f ≤ 32768
+  pub shallow : d ≤ 8
+  pub node : Node
+  pub end : ℕ
+  pub stands : ElementAt f d i node end
+
+-- the walk is behind the element at i, and stands for r
+pub record VisitedIs (f : List ℕ) (i : ℕ) (r : Found) (v : Walk) (ms : List ℕ) : Type 0 where
+  pub walks : found v ms ≡ r
+  pub ends : v .at ≡ walk.skipped f i
+
+-- the same, and whether stray text stands in it
+pub record InsideIs (f : List ℕ) (i : ℕ) (r : Found) (v : Inside) (ms : List ℕ) : Type 0 where
+  pub walks : found (v .walk) ms ≡ r
+  pub ends : v .walk .at ≡ walk.skipped f i
+  pub strays : v .stray ≡ walk.stray (walk.textOf f i)
 
 -- ---- what becomes of a file: a refusal by its shape, the first fault of its elements, or all its known elements
 abbrev pub entryOf : Known → Entry

@@ -4,11 +4,15 @@
 // May not touch: what the elements say together (names, channels, expressions): that is for the crates above.
 ghost use mathlib.Core.Path.{_≡_};
 ghost use mathlib.Core.Bool.{true, false};
-ghost use lib.ListN.{getD, set};
-ghost use Rattle.walk.specs.Steps.{contentAt};
-ghost use Rattle.element.specs.Steps.{lacksFirst};
+ghost use Prim.Native.Nat.{ℕ, suc, _≤_};
+ghost use mathlib.Core.List.{List};
+ghost use lib.ListN.{length, getD, set};
+ghost use Rattle.xml.specs.declared.Shape.the-variants.{Whole};
+ghost use Rattle.xml.specs.Shape.{Shaped};
+ghost use Rattle.walk.specs.Steps.{contentAt, skipped};
+ghost use Rattle.element.specs.Steps.{lacksFirst, worded};
 ghost use Rattle.schema.specs.Steps.{isCarried};
-ghost use Rattle.document.specs.Steps.{refusal, entered, enteredFound, refusedFound, noneSeen, oneMore, marked, isOver, lacksSome, closed, childAt, isBarred, looked, faultAt, visitBody, visitFrom, indexAt, noneFound, indexed, Indexes};
+ghost use Rattle.document.specs.Steps.{refusal, enteredFound, refusedFound, noneSeen, oneMore, marked, isOver, lacksSome, closed, childAt, isBarred, looked, faultAt, tagFaultAt, visitBody, visitFrom, indexAt, noneFound, indexed, Indexes, kindNumber, kindOf, entryFrom, entriesFrom, found, Ready, VisitedIs, InsideIs};
 use schema::Kind;
 use schema::Times;
 use walk::Body;
@@ -28,10 +32,19 @@ pub struct Index {
     pub entries: [Entry; 382],
 }
 
-// The index so far, and whether a required element lacks.
-struct Found {
-    index: Index,
+// The walk so far: where it stands, the first fault and its place (0 if there is none yet), how many entries are marked, and whether a required element lacks.
+struct Walk {
+    at: usize,
+    number: u32,
+    place: usize,
+    count: usize,
     lacking: bool,
+}
+
+// The walk behind an element, and whether text that is no blank stands in the element.
+struct Inside {
+    walk: Walk,
+    stray: bool,
 }
 
 // What an element holds so far: how many (counted up to 64), and which of those that it holds once.
@@ -75,38 +88,138 @@ fn refuse(number: u32, place: usize) -> Index
     }
 }
 
-fn enter(x: Index, kind: Kind, place: usize) -> Index
-    ensures { λ r. ⌜ r ≡ entered x kind place ⌝ }
+fn kind_number(kind: Kind) -> usize
+    ensures { λ r. ⌜ r ≡ kindNumber kind ⌝ }
 {
-    let n = x.count;
+    match kind {
+        Kind::File => 0,
+        Kind::Kvaser => 1,
+        Kind::Version => 2,
+        Kind::Settings => 3,
+        Kind::Mode => 4,
+        Kind::CanBus => 5,
+        Kind::Parameters => 6,
+        Kind::TriggerBlock => 7,
+        Kind::Triggers => 8,
+        Kind::MsgId => 9,
+        Kind::MsgDlc => 10,
+        Kind::ErrorFrame => 11,
+        Kind::Startup => 12,
+        Kind::Statements => 13,
+        Kind::Statement => 14,
+        Kind::Expression => 15,
+        Kind::Actions => 16,
+        Kind::StartLog => 17,
+        Kind::StopLog => 18,
+        Kind::StopLogCompletely => 19,
+        Kind::Filters => 20,
+        Kind::MessagePass => 21,
+        Kind::MessageStop => 22,
+        Kind::Channel => 23,
+        Kind::NotCarried => 24,
+        Kind::Unknown => 25,
+    }
+}
+
+fn kind_of(n: usize) -> Kind
+    ensures { λ r. ⌜ r ≡ kindOf n ⌝ }
+{
+    match n {
+        0 => Kind::File,
+        1 => Kind::Kvaser,
+        2 => Kind::Version,
+        3 => Kind::Settings,
+        4 => Kind::Mode,
+        5 => Kind::CanBus,
+        6 => Kind::Parameters,
+        7 => Kind::TriggerBlock,
+        8 => Kind::Triggers,
+        9 => Kind::MsgId,
+        10 => Kind::MsgDlc,
+        11 => Kind::ErrorFrame,
+        12 => Kind::Startup,
+        13 => Kind::Statements,
+        14 => Kind::Statement,
+        15 => Kind::Expression,
+        16 => Kind::Actions,
+        17 => Kind::StartLog,
+        18 => Kind::StopLog,
+        19 => Kind::StopLogCompletely,
+        20 => Kind::Filters,
+        21 => Kind::MessagePass,
+        22 => Kind::MessageStop,
+        23 => Kind::Channel,
+        24 => Kind::NotCarried,
+        _ => Kind::Unknown,
+    }
+}
+
+fn entry_from(mark: usize) -> Entry
+    ensures { λ r. ⌜ r ≡ entryFrom mark ⌝ }
+{
+    let kind = kind_of(mark % 32);
+    Entry {
+        kind,
+        place: mark / 32,
+    }
+}
+
+// The entries of the first n marks.
+fn entries_of(marks: &[usize], n: usize) -> [Entry; 382]
+    requires { ⌜ length (now marks) ≡ 382 ⌝ }
+    ensures { λ r. ⌜ r ≡ entriesFrom n (now (marks .entry)) ⌝ }
+{
+    let none = Entry {
+        kind: Kind::File,
+        place: 0,
+    };
+    let mut all = [none; 382];
+    let mut at = 0;
+    while at < 382 {
+        if n <= at {
+            return all;
+        }
+        all[at] = entry_from(marks[at]);
+        at += 1;
+    }
+    all
+}
+
+// The element where the walk stands is marked by its place and the number of its kind, if there is room for it.
+fn enter(walk: Walk, kind: Kind, marks: &mut [usize]) -> Walk
+    requires { ⌜ (length (now marks) ≡ 382) × (walk .at ≤ 32768) ⌝ }
+    ensures { λ r. ⌜ (found r (now (marks .exit)) ≡ enteredFound (found walk (now (marks .entry))) kind (walk .at)) × (r .at ≡ walk .at) ⌝ }
+{
+    let n = walk.count;
     if n < 382 {
-        let mut all = x;
-        all.entries[n] = Entry { kind, place };
-        all.count = n + 1;
-        return all;
+        let k = kind_number(kind);
+        marks[n] = walk.at * 32 + k;
+        let mut next = walk;
+        next.count = n + 1;
+        return next;
     }
-    x
+    walk
 }
 
-fn enter_found(found: Found, kind: Kind, place: usize) -> Found
-    ensures { λ r. ⌜ r ≡ enteredFound found kind place ⌝ }
+// Behind a fault there are no entries.
+fn refused(walk: Walk, number: u32, place: usize) -> Walk
+    ensures { λ r. ⌜ ((ms : List ℕ) → found r ms ≡ refusedFound (found walk ms) number place) × (r .at ≡ walk .at) ⌝ }
 {
-    let before = found.index;
-    let index = enter(before, kind, place);
-    Found {
-        index,
-        lacking: found.lacking,
+    Walk {
+        at: walk.at,
+        number,
+        place,
+        count: 0,
+        lacking: walk.lacking,
     }
 }
 
-fn refused(found: Found, number: u32, place: usize) -> Found
-    ensures { λ r. ⌜ r ≡ refusedFound found number place ⌝ }
+fn move_to(walk: Walk, at: usize) -> Walk
+    ensures { λ r. ⌜ ((ms : List ℕ) → found r ms ≡ found walk ms) × (r .at ≡ at) ⌝ }
 {
-    let index = refuse(number, place);
-    Found {
-        index,
-        lacking: found.lacking,
-    }
+    let mut next = walk;
+    next.at = at;
+    next
 }
 
 fn none_seen() -> Seen
@@ -201,14 +314,21 @@ fn lacks_some(kind: Kind, seen: Seen) -> bool
     }
 }
 
-fn close(found: Found, kind: Kind, seen: Seen) -> Found
-    ensures { λ r. ⌜ r ≡ closed found kind seen ⌝ }
+// At the end tag, behind which the walk goes on.
+fn close(walk: Walk, kind: Kind, seen: Seen, end: usize, stray: bool) -> Inside
+    ensures { λ r. ⌜ ((ms : List ℕ) → found (r .walk) ms ≡ closed (found walk ms) kind seen) × (r .walk .at ≡ end) × (r .stray ≡ stray) ⌝ }
 {
     let lacks = lacks_some(kind, seen);
-    let index = found.index;
-    Found {
-        index,
-        lacking: found.lacking | lacks,
+    let closed = Walk {
+        at: end,
+        number: walk.number,
+        place: walk.place,
+        count: walk.count,
+        lacking: walk.lacking | lacks,
+    };
+    Inside {
+        walk: closed,
+        stray,
     }
 }
 
@@ -235,11 +355,34 @@ fn fault_at(file: &[u8], i: usize, kind: Kind, over: bool) -> u32
     judging::own_fault(file, i, kind)
 }
 
-// Is an element of that kind looked at? Not behind a fault.
-fn is_looked_at(found: Found, kind: Kind) -> bool
-    ensures { λ r. ⌜ r ≡ looked found kind ⌝ }
+// The same, stray text aside: what a start tag and a text that is read tell.
+fn tag_fault_at(file: &[u8], i: usize, kind: Kind, over: bool) -> u32
+    ensures { λ r. ⌜ r ≡ tagFaultAt (now (file .entry)) i kind over ⌝ }
 {
-    if found.index.number != 0 {
+    if is_barred(kind) {
+        return 7;
+    }
+    if over {
+        return 4;
+    }
+    judging::tag_fault(file, i, kind)
+}
+
+// Has an element of that kind a text of its own?
+fn is_worded(kind: Kind) -> bool
+    ensures { λ r. ⌜ r ≡ worded kind ⌝ }
+{
+    match kind {
+        Kind::Version | Kind::Expression | Kind::Channel => true,
+        _ => false,
+    }
+}
+
+// Is an element of that kind looked at? Not behind a fault.
+fn is_looked_at(walk: Walk, kind: Kind) -> bool
+    ensures { λ r. ⌜ ((ms : List ℕ) → r ≡ looked (found walk ms) kind) ⌝ }
+{
+    if walk.number != 0 {
         return false;
     }
     if is_carried(kind) {
@@ -248,96 +391,120 @@ fn is_looked_at(found: Found, kind: Kind) -> bool
     is_barred(kind)
 }
 
-// The element at i, of that kind, in which elements nest at most `left` deep, and all known elements in it.
-fn visit(file: &[u8], i: usize, kind: Kind, over: bool, left: usize, found: Found) -> Found
-    ensures { λ r. ⌜ r ≡ visitFrom (now (file .entry)) left i kind over found ⌝ }
+// Over the element where the walk stands.
+fn pass(file: &[u8], walk: Walk) -> Walk
+    ensures { λ r. ⌜ ((ms : List ℕ) → found r ms ≡ found walk ms) × (r .at ≡ skipped (now (file .entry)) (walk .at)) ⌝ }
 {
-    if left == 0 {
-        return found;
-    }
-    if !is_looked_at(found, kind) {
-        return found;
-    }
-    let number = fault_at(file, i, kind, over);
-    if number != 0 {
-        return refused(found, number, i);
-    }
-    let entered = enter_found(found, kind, i);
-    visit_inside(file, i, kind, left - 1, entered)
+    let end = passing::skip(file, walk.at);
+    move_to(walk, end)
 }
 
-// All known elements in the element at i, which is of that kind and has been entered; elements nest at most `left` deep in it.
-fn visit_inside(file: &[u8], i: usize, kind: Kind, left: usize, entered: Found) -> Found
-    ensures { λ r. ⌜ r ≡ visitBody (visitFrom (now (file .entry)) left) (now (file .entry)) kind entered (contentAt (now (file .entry)) i) ⌝ }
+// The element where the walk stands, of that kind, in which elements nest at most `left` deep, and all known elements in it. Stray text shows only behind it.
+fn visit(file: &[u8], kind: Kind, over: bool, left: usize, walk: Walk, marks: &mut [usize]) -> Walk
+    requires { ⌜ Ready (now file) left (walk .at) (now marks) ⌝ }
+    ensures { λ r. ⌜ VisitedIs (now (file .entry)) (walk .at) (visitFrom (now (file .entry)) left (walk .at) kind over (found walk (now (marks .entry)))) r (now (marks .exit)) ⌝ }
 {
+    let i = walk.at;
+    if !is_looked_at(walk, kind) {
+        return pass(file, walk);
+    }
+    if tag_fault_at(file, i, kind, over) != 0 {
+        let number = fault_at(file, i, kind, over);
+        let faulty = refused(walk, number, i);
+        return pass(file, faulty);
+    }
+    let entered = enter(walk, kind, marks);
+    let inside = visit_inside(file, kind, left - 1, entered, marks);
+    let all = inside.walk;
+    if !is_worded(kind) & inside.stray {
+        let strayed = refused(walk, 6, i);
+        return move_to(strayed, all.at);
+    }
+    all
+}
+
+// All known elements in the element where the walk stands, which is of that kind and has been entered; elements nest at most `left` deep in it.
+// In a file of good shape its end tag comes before anything that is broken.
+fn visit_inside(file: &[u8], kind: Kind, left: usize, entered: Walk, marks: &mut [usize]) -> Inside
+    requires { ⌜ Ready (now file) (suc left) (entered .at) (now marks) ⌝ }
+    ensures { λ r. ⌜ InsideIs (now (file .entry)) (entered .at) (visitBody (visitFrom (now (file .entry)) left) (now (file .entry)) kind (found entered (now (marks .entry))) (contentAt (now (file .entry)) (entered .at))) r (now (marks .exit)) ⌝ }
+{
+    let i = entered.at;
     match walk::content_at(file, i) {
-        Body::Broken => entered,
-        Body::Empty(_) => close(entered, kind, none_seen()),
+        Body::Broken => close(entered, kind, none_seen(), i, false),
+        Body::Empty(e) => close(entered, kind, none_seen(), e, false),
         Body::Open(o) => {
-            let mut all = entered;
-            let mut j = o;
+            let mut all = move_to(entered, o);
             let mut seen = none_seen();
-            while j < file.len() {
-                match walk::item_at(file, j) {
+            let mut stray = false;
+            while all.at < file.len() {
+                match walk::item_at(file, all.at) {
                     Item::Text(k) => {
-                        j = k;
+                        stray = stray | (runs::blanks_end(file, all.at) < k);
+                        all.at = k;
                     }
                     Item::Remark(k) => {
-                        j = k;
+                        all.at = k;
                     }
                     Item::Child => {
-                        let child = child_at(file, j, kind);
+                        let child = child_at(file, all.at, kind);
                         let surplus = is_over(kind, child, seen);
-                        all = visit(file, j, child, surplus, left, all);
+                        all = visit(file, child, surplus, left, all, marks);
                         seen = mark(seen, child);
-                        j = passing::skip(file, j);
                     }
-                    Item::Close(_) => {
-                        return close(all, kind, seen);
+                    Item::Close(e) => {
+                        return close(all, kind, seen, e, stray);
                     }
                     Item::Broken => {
-                        return all;
+                        return close(all, kind, seen, i, stray);
                     }
                 }
             }
-            all
+            close(all, kind, seen, i, stray)
         }
     }
 }
 
 // A required element that lacks comes after every fault of an element.
-fn settle(found: Found, root: usize) -> Index
-    ensures { λ r. ⌜ r ≡ indexAt root found ⌝ }
+fn settle(walk: Walk, root: usize, marks: &[usize]) -> Index
+    requires { ⌜ length (now marks) ≡ 382 ⌝ }
+    ensures { λ r. ⌜ r ≡ indexAt root (found walk (now (marks .entry))) ⌝ }
 {
-    let index = found.index;
-    if index.number != 0 {
-        return index;
-    }
-    if found.lacking {
+    if (walk.number == 0) & walk.lacking {
         return refuse(8, root);
     }
-    index
+    let entries = entries_of(marks, walk.count);
+    Index {
+        number: walk.number,
+        place: walk.place,
+        count: walk.count,
+        entries,
+    }
 }
 
-fn none_found() -> Found
-    ensures { λ r. ⌜ r ≡ noneFound ⌝ }
+fn none_found(at: usize) -> Walk
+    ensures { λ r. ⌜ ((ms : List ℕ) → found r ms ≡ noneFound) × (r .at ≡ at) ⌝ }
 {
-    let index = refuse(0, 0);
-    Found {
-        index,
+    Walk {
+        at,
+        number: 0,
+        place: 0,
+        count: 0,
         lacking: false,
     }
 }
 
 // The index of a file of good shape.
 fn index_whole(file: &[u8]) -> Index
+    requires { ⌜ Shaped (now file) Whole ⌝ }
     ensures { λ r. ⌜ r ≡ indexed (now (file .entry)) ⌝ }
 {
     let root = walk::root_at(file);
     let kind = child_at(file, root, Kind::File);
     if is_carried(kind) {
-        let found = visit(file, root, kind, false, 8, none_found());
-        return settle(found, root);
+        let mut marks = [0; 382];
+        let all = visit(file, kind, false, 8, none_found(root), &mut marks);
+        return settle(all, root, &marks);
     }
     refuse(3, root)
 }

@@ -90,12 +90,24 @@ badText kind f i =
     cond (is kind "VERSION") (not (same (shortText f i) (bytes "2.0")))
     (cond (is kind "CHANNEL") (isBad (numbered f i)) (cond (is kind "EXPRESSION") false (walk.stray (walk.textOf f i))))
 
+-- the kinds that read a text of their own; in every other only blanks may stand
+unfoldable pub worded : Kind → Bool
+worded kind = is kind "VERSION" || is kind "CHANNEL" || is kind "EXPRESSION"
+
+-- the same of a text that is read for its value: stray text aside
+unfoldable pub misspelt : Kind → List ℕ → ℕ → Bool
+misspelt kind f i = cond (is kind "VERSION") (not (same (shortText f i) (bytes "2.0"))) (cond (is kind "CHANNEL") (isBad (numbered f i)) false)
+
 -- the first of 5, 6, 7 for a value, or 0
 unfoldable pub verdict : Kind → Bool → Gathered → ℕ
 verdict kind t g = cond (g .five || lacking kind (g .has)) 5 (cond (g .six || boundsCrossed kind (g .values) || t) 6 (cond (g .seven) 7 0))
 
 unfoldable pub ownFault : Kind → List ℕ → ℕ → ℕ
 ownFault kind f i = verdict kind (badText kind f i) (gathered kind f i)
+
+-- the same, stray text aside
+unfoldable pub tagFault : Kind → List ℕ → ℕ → ℕ
+tagFault kind f i = verdict kind (misspelt kind f i) (gathered kind f i)
 
 -- the number of the first fault, or 0
 unfoldable pub firstNumber : List Fault → ℕ

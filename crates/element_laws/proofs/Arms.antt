@@ -19,3 +19,7 @@ unbounded = slice 0 9 every ++ (slice 11 21 every ++ slice 23 26 every)
 -- all but those with text of their own: 2, 15 and 23
 abbrev pub textless : List Kind
 textless = slice 0 2 every ++ (slice 3 15 every ++ (slice 16 23 every ++ slice 24 26 every))
+
+-- all but those whose text is read for its value: 2 and 23
+abbrev pub unread : List Kind
+unread = slice 0 2 every ++ (slice 3 23 every ++ slice 24 26 every)

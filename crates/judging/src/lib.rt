@@ -1,7 +1,7 @@
 // The own faults of one element of a known kind (5, 6, 7 for a value): attributes that lack, bounds, its text.
 //
-// Promises: `own_fault` is the function of the bytes that crates/element/specs/Steps.antt gives, for every input; the laws of
-// `element` say that on a well-shaped file it is the first of the element's faults there.
+// Promises: `own_fault` and `tag_fault` are the functions of the bytes that crates/element/specs/Steps.antt gives, for every input; the
+// laws of `element` say that on a well-shaped file `own_fault` is the first of the element's faults there.
 // May not touch: other elements. Which elements are known, and what their parent holds already, it is told.
 ghost use mathlib.Core.Path.{_≡_};
 ghost use mathlib.Core.Bool.{false};
@@ -9,7 +9,8 @@ ghost use lib.ListN.{getD};
 ghost use Rattle.ascii.specs.Texts.{bytes, same};
 ghost use Rattle.walk.specs.Text.{trimmed};
 ghost use Rattle.element.specs.Element.{isBad};
-ghost use Rattle.element.specs.Steps.{lacksFirst, unpaired, lacking, idsCrossed, boundsCrossed, shortText, badText, ownFault};
+ghost use Rattle.element.specs.Steps.{lacksFirst, unpaired, lacking, idsCrossed, boundsCrossed, shortText, badText, misspelt, verdict, ownFault, tagFault};
+use element::Gathered;
 use element::SLOTS;
 use schema::Kind;
 use single_text::Single;
@@ -116,9 +117,9 @@ fn has_version(file: &[u8], i: usize) -> bool
     }
 }
 
-// Has the element at i a text that its kind may not have?
-fn bad_text(file: &[u8], i: usize, kind: Kind) -> bool
-    ensures { λ r. ⌜ r ≡ badText kind (now (file .entry)) i ⌝ }
+// Is the text of the element at i read for its value, and has none?
+fn is_misspelt(file: &[u8], i: usize, kind: Kind) -> bool
+    ensures { λ r. ⌜ r ≡ misspelt kind (now (file .entry)) i ⌝ }
 {
     match kind {
         Kind::Version => {
@@ -129,16 +130,24 @@ fn bad_text(file: &[u8], i: usize, kind: Kind) -> bool
             let w = picking::channel_number(file, i);
             is_bad(w)
         }
-        Kind::Expression => false,
+        _ => false,
+    }
+}
+
+// Has the element at i a text that its kind may not have?
+fn bad_text(file: &[u8], i: usize, kind: Kind) -> bool
+    ensures { λ r. ⌜ r ≡ badText kind (now (file .entry)) i ⌝ }
+{
+    match kind {
+        Kind::Version | Kind::Expression | Kind::Channel => is_misspelt(file, i, kind),
         _ => gathering::has_text(file, i),
     }
 }
 
-// The first of 5, 6, 7 for a value that the element at i gives; 0 if it gives none.
-pub fn own_fault(file: &[u8], i: usize, kind: Kind) -> u32
-    ensures { λ r. ⌜ r ≡ ownFault kind (now (file .entry)) i ⌝ }
+// The first of 5, 6, 7 for a value, by the attributes and whether the text is bad.
+fn verdict_of(kind: Kind, g: Gathered, bad: bool) -> u32
+    ensures { λ r. ⌜ r ≡ verdict kind bad g ⌝ }
 {
-    let g = element::gather(file, i, kind);
     let has = g.has;
     let values = g.values;
     if g.five {
@@ -153,11 +162,29 @@ pub fn own_fault(file: &[u8], i: usize, kind: Kind) -> u32
     if bounds_crossed(kind, values) {
         return 6;
     }
-    if bad_text(file, i, kind) {
+    if bad {
         return 6;
     }
     if g.seven {
         return 7;
     }
     0
+}
+
+// The first of 5, 6, 7 for a value that the element at i gives; 0 if it gives none.
+pub fn own_fault(file: &[u8], i: usize, kind: Kind) -> u32
+    ensures { λ r. ⌜ r ≡ ownFault kind (now (file .entry)) i ⌝ }
+{
+    let g = element::gather(file, i, kind);
+    let bad = bad_text(file, i, kind);
+    verdict_of(kind, g, bad)
+}
+
+// The same, stray text aside.
+pub fn tag_fault(file: &[u8], i: usize, kind: Kind) -> u32
+    ensures { λ r. ⌜ r ≡ tagFault kind (now (file .entry)) i ⌝ }
+{
+    let tag = element::gather(file, i, kind);
+    let misspelt = is_misspelt(file, i, kind);
+    verdict_of(kind, tag, misspelt)
 }

@@ -1,4 +1,4 @@
--- `document::visit` and `document::visit_inside`, which call each other, meet their contracts. The depth that is left falls; the loop's invariant: from here the answer is the whole one.
+-- `document::visit` and `document::visit_inside`, which call each other, meet their contracts. The depth that is left falls; the loop's invariant is `Inner`.
 use Prim.Native.Nat.{ℕ, _<_}
 use borrow.Fn.Kinds.{In}
 use borrow.Fn.PlainCycle.{Measures, is, falls, and}
@@ -10,197 +10,458 @@ use Rattle.document.proofs.visit_inside.Kinds as visit-inside-kinds
 use Rattle.document.proofs.+visit+visit_inside.Lts-visit_inside as visit-inside-lts
 use Rattle.document.proofs.child_at.Reads as child-at-reads
 use Rattle.document.proofs.close.Reads as close-reads
-use Rattle.document.proofs.enter_found.Reads as enter-found-reads
+use Rattle.document.proofs.enter.Reads as enter-reads
 use Rattle.document.proofs.fault_at.Reads as fault-at-reads
 use Rattle.document.proofs.is_looked_at.Reads as is-looked-at-reads
 use Rattle.document.proofs.is_over.Reads as is-over-reads
+use Rattle.document.proofs.is_worded.Reads as is-worded-reads
 use Rattle.document.proofs.mark.Reads as mark-reads
+use Rattle.document.proofs.move_to.Reads as move-to-reads
 use Rattle.document.proofs.none_seen.Reads as none-seen-reads
+use Rattle.document.proofs.pass.Reads as pass-reads
 use Rattle.document.proofs.refused.Reads as refused-reads
+use Rattle.document.proofs.tag_fault_at.Reads as tag-fault-at-reads
+use Rattle.runs.proofs.blanks_end.Reads as blanks-end-reads
 use Rattle.walk.proofs.content_at.Reads as content-at-reads
 use Rattle.walk.proofs.item_at.Reads as item-at-reads
-use Rattle.passing.proofs.skip.Reads as skip-reads
 use Rattle.document.proofs.+visit+visit_inside.{statement}
 use Rattle.document.proofs.+visit+visit_inside.Tie.{close}
 use Prim.Native.Nat.{_-_, _+_, _*_}
-use mathlib.Core.Path.{sym, _∙_}
+use mathlib.Core.Path.{_≡_, refl, sym, ap, _∙_}
 use native.Mathlib.Omega.{arith}
 use lib.ListN.{length}
-use Rattle.walk.specs.Steps.{contentAt}
+use Rattle.walk.specs.Steps.{contentAt, skipped}
 use Rattle.walk.proofs.Bounds.{item-from, skipped-bounds}
-use Rattle.document.specs.Steps.{visitBody, visitFrom}
-use Rattle.document.proofs.Turns.{VisitTurn, on-text, on-remark, on-child, on-close, on-broken, on-end, visit-deep, visit-past, visit-fault, visit-good, inside-open, inside-empty, inside-broken}
+use Rattle.document.specs.Steps.{Found, visitBody, visitFrom, found}
+use Rattle.document.proofs.Turns.{visit-past, visit-fault, visit-good, tag-fault-kept, stray-fault, no-fault, refused-same}
+use Rattle.document.proofs.Insides.{ready-deep, ready-inside, inside-moved, Inner, inner-start, empty-leaves, broken-none, inner-over, inner-broken, inner-text, inner-remark, child-ready, inner-child, inner-leaves}
 use borrow.Author.Needs.{needs}
 
-abbrev μ-visit : Measures 1 visit-kinds.ps ℕ
-μ-visit κs a = 2 * a .1 .1 .1 .1 .0
+abbrev μ-visit : Measures 2 visit-kinds.ps ℕ
+μ-visit κs a = 2 * a .1 .1 .1 .0
 
-abbrev μ-visit-inside : Measures 1 visit-inside-kinds.ps ℕ
-μ-visit-inside κs a = 2 * a .1 .1 .1 .0 + 1
+abbrev μ-visit-inside : Measures 2 visit-inside-kinds.ps ℕ
+μ-visit-inside κs a = 2 * a .1 .1 .0 + 1
 
-abbrev visit-at : ℕ → In 1 visit-kinds.ps
-visit-at t = and 1 visit-kinds.ps (is 1 visit-kinds.ps μ-visit t) visit.Pre
+abbrev visit-at : ℕ → In 2 visit-kinds.ps
+visit-at t = and 2 visit-kinds.ps (is 2 visit-kinds.ps μ-visit t) visit.Pre
 
-abbrev visit-below : ℕ → In 1 visit-kinds.ps
-visit-below t = and 1 visit-kinds.ps (falls 1 visit-kinds.ps _<_ μ-visit t) visit.Pre
+abbrev visit-below : ℕ → In 2 visit-kinds.ps
+visit-below t = and 2 visit-kinds.ps (falls 2 visit-kinds.ps _<_ μ-visit t) visit.Pre
 
-abbrev visit-inside-at : ℕ → In 1 visit-inside-kinds.ps
+abbrev visit-inside-at : ℕ → In 2 visit-inside-kinds.ps
 visit-inside-at t =
-    and 1 visit-inside-kinds.ps (is 1 visit-inside-kinds.ps μ-visit-inside t) visit-inside.Pre
+    and 2 visit-inside-kinds.ps (is 2 visit-inside-kinds.ps μ-visit-inside t) visit-inside.Pre
 
-abbrev visit-inside-below : ℕ → In 1 visit-inside-kinds.ps
+abbrev visit-inside-below : ℕ → In 2 visit-inside-kinds.ps
 visit-inside-below t =
     and
-    1
+    2
     visit-inside-kinds.ps
-    (falls 1 visit-inside-kinds.ps _<_ μ-visit-inside t)
+    (falls 2 visit-inside-kinds.ps _<_ μ-visit-inside t)
     visit-inside.Pre
-
-visit-returns : (t : ℕ) → visit-lts.Need-returns (
-  is-looked-at-reads.Asked,
-  is-looked-at-reads.Learnt,
-  fault-at-reads.Asked,
-  fault-at-reads.Learnt,
-  refused-reads.Asked,
-  refused-reads.Learnt,
-  enter-found-reads.Asked,
-  enter-found-reads.Learnt,
-  visit-inside-below t,
-  visit-inside.Post,
-) (visit-at t) visit.Post
-visit-returns t c = visit-deep (c .before .before .args .file .now) _ _ _ _ _ (c .if1 .taken)
 
 visit-is-looked-at-requires : (t : ℕ) → visit-lts.Need-is-looked-at-requires (
   is-looked-at-reads.Asked,
   is-looked-at-reads.Learnt,
+  pass-reads.Asked,
+  pass-reads.Learnt,
+  tag-fault-at-reads.Asked,
+  tag-fault-at-reads.Learnt,
   fault-at-reads.Asked,
   fault-at-reads.Learnt,
   refused-reads.Asked,
   refused-reads.Learnt,
-  enter-found-reads.Asked,
-  enter-found-reads.Learnt,
+  enter-reads.Asked,
+  enter-reads.Learnt,
   visit-inside-below t,
   visit-inside.Post,
+  is-worded-reads.Asked,
+  is-worded-reads.Learnt,
+  move-to-reads.Asked,
+  move-to-reads.Learnt,
 ) (visit-at t) visit.Post
 visit-is-looked-at-requires t c κs = search needs
 
-visit-returns-2 : (t : ℕ) → visit-lts.Need-returns-2 (
+visit-pass-requires : (t : ℕ) → visit-lts.Need-pass-requires (
   is-looked-at-reads.Asked,
   is-looked-at-reads.Learnt,
+  pass-reads.Asked,
+  pass-reads.Learnt,
+  tag-fault-at-reads.Asked,
+  tag-fault-at-reads.Learnt,
   fault-at-reads.Asked,
   fault-at-reads.Learnt,
   refused-reads.Asked,
   refused-reads.Learnt,
-  enter-found-reads.Asked,
-  enter-found-reads.Learnt,
+  enter-reads.Asked,
+  enter-reads.Learnt,
   visit-inside-below t,
   visit-inside.Post,
+  is-worded-reads.Asked,
+  is-worded-reads.Learnt,
+  move-to-reads.Asked,
+  move-to-reads.Learnt,
 ) (visit-at t) visit.Post
-visit-returns-2 t c = visit-past (c .before .before .before .before .args .file .now) _ _ _ _ _ _ (c .before .is-looked-at .ensures) (c .if2 .taken)
+visit-pass-requires t c κs = search needs
+
+visit-returns : (t : ℕ) → visit-lts.Need-returns (
+  is-looked-at-reads.Asked,
+  is-looked-at-reads.Learnt,
+  pass-reads.Asked,
+  pass-reads.Learnt,
+  tag-fault-at-reads.Asked,
+  tag-fault-at-reads.Learnt,
+  fault-at-reads.Asked,
+  fault-at-reads.Learnt,
+  refused-reads.Asked,
+  refused-reads.Learnt,
+  enter-reads.Asked,
+  enter-reads.Learnt,
+  visit-inside-below t,
+  visit-inside.Post,
+  is-worded-reads.Asked,
+  is-worded-reads.Learnt,
+  move-to-reads.Asked,
+  move-to-reads.Learnt,
+) (visit-at t) visit.Post
+visit-returns t c = record { walks = c .pass .ensures .0 (c .before .before .before .before .before .args .marks .now) ∙ visit-past (c .before .before .before .before .before .args .file .now) _ _ _ _ _ _ (c .before .before .is-looked-at .ensures (c .before .before .before .before .before .args .marks .now)) (c .before .if1 .taken); ends = c .pass .ensures .1 }
+
+visit-tag-fault-at-requires : (t : ℕ) → visit-lts.Need-tag-fault-at-requires (
+  is-looked-at-reads.Asked,
+  is-looked-at-reads.Learnt,
+  pass-reads.Asked,
+  pass-reads.Learnt,
+  tag-fault-at-reads.Asked,
+  tag-fault-at-reads.Learnt,
+  fault-at-reads.Asked,
+  fault-at-reads.Learnt,
+  refused-reads.Asked,
+  refused-reads.Learnt,
+  enter-reads.Asked,
+  enter-reads.Learnt,
+  visit-inside-below t,
+  visit-inside.Post,
+  is-worded-reads.Asked,
+  is-worded-reads.Learnt,
+  move-to-reads.Asked,
+  move-to-reads.Learnt,
+) (visit-at t) visit.Post
+visit-tag-fault-at-requires t c κs = search needs
 
 visit-fault-at-requires : (t : ℕ) → visit-lts.Need-fault-at-requires (
   is-looked-at-reads.Asked,
   is-looked-at-reads.Learnt,
+  pass-reads.Asked,
+  pass-reads.Learnt,
+  tag-fault-at-reads.Asked,
+  tag-fault-at-reads.Learnt,
   fault-at-reads.Asked,
   fault-at-reads.Learnt,
   refused-reads.Asked,
   refused-reads.Learnt,
-  enter-found-reads.Asked,
-  enter-found-reads.Learnt,
+  enter-reads.Asked,
+  enter-reads.Learnt,
   visit-inside-below t,
   visit-inside.Post,
+  is-worded-reads.Asked,
+  is-worded-reads.Learnt,
+  move-to-reads.Asked,
+  move-to-reads.Learnt,
 ) (visit-at t) visit.Post
 visit-fault-at-requires t c κs = search needs
 
 visit-refused-requires : (t : ℕ) → visit-lts.Need-refused-requires (
   is-looked-at-reads.Asked,
   is-looked-at-reads.Learnt,
+  pass-reads.Asked,
+  pass-reads.Learnt,
+  tag-fault-at-reads.Asked,
+  tag-fault-at-reads.Learnt,
   fault-at-reads.Asked,
   fault-at-reads.Learnt,
   refused-reads.Asked,
   refused-reads.Learnt,
-  enter-found-reads.Asked,
-  enter-found-reads.Learnt,
+  enter-reads.Asked,
+  enter-reads.Learnt,
   visit-inside-below t,
   visit-inside.Post,
+  is-worded-reads.Asked,
+  is-worded-reads.Learnt,
+  move-to-reads.Asked,
+  move-to-reads.Learnt,
 ) (visit-at t) visit.Post
 visit-refused-requires t c κs = search needs
 
-visit-returns-3 : (t : ℕ) → visit-lts.Need-returns-3 (
+visit-pass-requires-2 : (t : ℕ) → visit-lts.Need-pass-requires-2 (
   is-looked-at-reads.Asked,
   is-looked-at-reads.Learnt,
+  pass-reads.Asked,
+  pass-reads.Learnt,
+  tag-fault-at-reads.Asked,
+  tag-fault-at-reads.Learnt,
   fault-at-reads.Asked,
   fault-at-reads.Learnt,
   refused-reads.Asked,
   refused-reads.Learnt,
-  enter-found-reads.Asked,
-  enter-found-reads.Learnt,
+  enter-reads.Asked,
+  enter-reads.Learnt,
   visit-inside-below t,
   visit-inside.Post,
+  is-worded-reads.Asked,
+  is-worded-reads.Learnt,
+  move-to-reads.Asked,
+  move-to-reads.Learnt,
 ) (visit-at t) visit.Post
-visit-returns-3 t c = visit-fault (c .before .before .before .before .before .before .before .args .file .now) _ _ _ _ _ (c .before .before .before .before .is-looked-at .ensures) (c .before .before .before .if2 .left) _ (c .before .before .fault-at .ensures) _ (c .before .before .before .before .before .if1 .left) (c .before .if3 .taken) _ (c .refused .ensures)
+visit-pass-requires-2 t c κs = search needs
 
-visit-enter-found-requires : (t : ℕ) → visit-lts.Need-enter-found-requires (
+visit-returns-2 : (t : ℕ) → visit-lts.Need-returns-2 (
   is-looked-at-reads.Asked,
   is-looked-at-reads.Learnt,
+  pass-reads.Asked,
+  pass-reads.Learnt,
+  tag-fault-at-reads.Asked,
+  tag-fault-at-reads.Learnt,
   fault-at-reads.Asked,
   fault-at-reads.Learnt,
   refused-reads.Asked,
   refused-reads.Learnt,
-  enter-found-reads.Asked,
-  enter-found-reads.Learnt,
+  enter-reads.Asked,
+  enter-reads.Learnt,
   visit-inside-below t,
   visit-inside.Post,
+  is-worded-reads.Asked,
+  is-worded-reads.Learnt,
+  move-to-reads.Asked,
+  move-to-reads.Learnt,
 ) (visit-at t) visit.Post
-visit-enter-found-requires t c κs = search needs
+visit-returns-2 t c = record { walks = visit-fault (c .before .before .before .before .before .before .before .before .before .args .file .now) _ _ _ _ _ (c .before .before .before .before .before .before .is-looked-at .ensures (c .before .before .before .before .before .before .before .before .before .args .marks .now)) (c .before .before .before .before .before .if1 .left) _ (c .before .before .fault-at .ensures) _ (ready-deep _ _ _ _ (c .before .before .before .before .before .before .before .before .before .pre .1)) (tag-fault-kept (c .before .before .before .before .before .before .before .before .before .args .file .now) _ _ _ _ (c .before .before .before .before .tag-fault-at .ensures) (c .before .before .before .if2 .taken) _ (c .before .before .fault-at .ensures)) _ (c .pass2 .ensures .0 (c .before .before .before .before .before .before .before .before .before .args .marks .now) ∙ c .before .refused .ensures .0 (c .before .before .before .before .before .before .before .before .before .args .marks .now)); ends = c .pass2 .ensures .1 ∙ ap (skipped (c .before .before .before .before .before .before .before .before .before .args .file .now)) (c .before .refused .ensures .1) }
+
+visit-enter-requires : (t : ℕ) → visit-lts.Need-enter-requires (
+  is-looked-at-reads.Asked,
+  is-looked-at-reads.Learnt,
+  pass-reads.Asked,
+  pass-reads.Learnt,
+  tag-fault-at-reads.Asked,
+  tag-fault-at-reads.Learnt,
+  fault-at-reads.Asked,
+  fault-at-reads.Learnt,
+  refused-reads.Asked,
+  refused-reads.Learnt,
+  enter-reads.Asked,
+  enter-reads.Learnt,
+  visit-inside-below t,
+  visit-inside.Post,
+  is-worded-reads.Asked,
+  is-worded-reads.Learnt,
+  move-to-reads.Asked,
+  move-to-reads.Learnt,
+) (visit-at t) visit.Post
+visit-enter-requires t c κs = (c .before .before .before .before .before .before .before .pre .1 .room, omega (arith, c .before .before .before .before .before .before .before .pre .1 .short, c .before .before .before .before .before .before .before .pre .1 .stands .before, c .before .before .before .before .before .before .before .pre .1 .stands .within))
 
 visit-sub-visit-inside : (t : ℕ) → visit-lts.Need-sub-visit-inside (
   is-looked-at-reads.Asked,
   is-looked-at-reads.Learnt,
+  pass-reads.Asked,
+  pass-reads.Learnt,
+  tag-fault-at-reads.Asked,
+  tag-fault-at-reads.Learnt,
   fault-at-reads.Asked,
   fault-at-reads.Learnt,
   refused-reads.Asked,
   refused-reads.Learnt,
-  enter-found-reads.Asked,
-  enter-found-reads.Learnt,
+  enter-reads.Asked,
+  enter-reads.Learnt,
   visit-inside-below t,
   visit-inside.Post,
+  is-worded-reads.Asked,
+  is-worded-reads.Learnt,
+  move-to-reads.Asked,
+  move-to-reads.Learnt,
 ) (visit-at t) visit.Post
-visit-sub-visit-inside t c = omega (arith, c .before .before .before .before .before .if1 .left)
+visit-sub-visit-inside t c = let n = ready-deep _ _ _ _ (c .before .before .before .before .before .before .before .before .before .before .pre .1) in omega (arith, n)
 
 visit-visit-inside-requires : (t : ℕ) → visit-lts.Need-visit-inside-requires (
   is-looked-at-reads.Asked,
   is-looked-at-reads.Learnt,
+  pass-reads.Asked,
+  pass-reads.Learnt,
+  tag-fault-at-reads.Asked,
+  tag-fault-at-reads.Learnt,
   fault-at-reads.Asked,
   fault-at-reads.Learnt,
   refused-reads.Asked,
   refused-reads.Learnt,
-  enter-found-reads.Asked,
-  enter-found-reads.Learnt,
+  enter-reads.Asked,
+  enter-reads.Learnt,
   visit-inside-below t,
   visit-inside.Post,
+  is-worded-reads.Asked,
+  is-worded-reads.Learnt,
+  move-to-reads.Asked,
+  move-to-reads.Learnt,
 ) (visit-at t) visit.Post
-visit-visit-inside-requires t c κs = (omega (arith, c .before .before .before .before .before .before .before .pre .0, c .before .before .before .before .before .if1 .left), tt)
+visit-visit-inside-requires t c κs = let n = ready-deep _ _ _ _ (c .before .before .before .before .before .before .before .before .before .before .before .pre .1) in (omega (arith, c .before .before .before .before .before .before .before .before .before .before .before .pre .0, n), ready-inside _ _ _ _ _ _ (c .before .before .before .before .before .before .before .before .before .before .before .pre .1) (c .before .before .before .enter .ensures .1) (c .before .before .before .enter .kept .1 .1 .0))
+
+visit-is-worded-requires : (t : ℕ) → visit-lts.Need-is-worded-requires (
+  is-looked-at-reads.Asked,
+  is-looked-at-reads.Learnt,
+  pass-reads.Asked,
+  pass-reads.Learnt,
+  tag-fault-at-reads.Asked,
+  tag-fault-at-reads.Learnt,
+  fault-at-reads.Asked,
+  fault-at-reads.Learnt,
+  refused-reads.Asked,
+  refused-reads.Learnt,
+  enter-reads.Asked,
+  enter-reads.Learnt,
+  visit-inside-below t,
+  visit-inside.Post,
+  is-worded-reads.Asked,
+  is-worded-reads.Learnt,
+  move-to-reads.Asked,
+  move-to-reads.Learnt,
+) (visit-at t) visit.Post
+visit-is-worded-requires t c κs = search needs
+
+visit-refused-requires-2 : (t : ℕ) → visit-lts.Need-refused-requires-2 (
+  is-looked-at-reads.Asked,
+  is-looked-at-reads.Learnt,
+  pass-reads.Asked,
+  pass-reads.Learnt,
+  tag-fault-at-reads.Asked,
+  tag-fault-at-reads.Learnt,
+  fault-at-reads.Asked,
+  fault-at-reads.Learnt,
+  refused-reads.Asked,
+  refused-reads.Learnt,
+  enter-reads.Asked,
+  enter-reads.Learnt,
+  visit-inside-below t,
+  visit-inside.Post,
+  is-worded-reads.Asked,
+  is-worded-reads.Learnt,
+  move-to-reads.Asked,
+  move-to-reads.Learnt,
+) (visit-at t) visit.Post
+visit-refused-requires-2 t c κs = search needs
+
+visit-move-to-requires : (t : ℕ) → visit-lts.Need-move-to-requires (
+  is-looked-at-reads.Asked,
+  is-looked-at-reads.Learnt,
+  pass-reads.Asked,
+  pass-reads.Learnt,
+  tag-fault-at-reads.Asked,
+  tag-fault-at-reads.Learnt,
+  fault-at-reads.Asked,
+  fault-at-reads.Learnt,
+  refused-reads.Asked,
+  refused-reads.Learnt,
+  enter-reads.Asked,
+  enter-reads.Learnt,
+  visit-inside-below t,
+  visit-inside.Post,
+  is-worded-reads.Asked,
+  is-worded-reads.Learnt,
+  move-to-reads.Asked,
+  move-to-reads.Learnt,
+) (visit-at t) visit.Post
+visit-move-to-requires t c κs = search needs
+
+visit-same-length : (t : ℕ) → visit-lts.Need-same-length (
+  is-looked-at-reads.Asked,
+  is-looked-at-reads.Learnt,
+  pass-reads.Asked,
+  pass-reads.Learnt,
+  tag-fault-at-reads.Asked,
+  tag-fault-at-reads.Learnt,
+  fault-at-reads.Asked,
+  fault-at-reads.Learnt,
+  refused-reads.Asked,
+  refused-reads.Learnt,
+  enter-reads.Asked,
+  enter-reads.Learnt,
+  visit-inside-below t,
+  visit-inside.Post,
+  is-worded-reads.Asked,
+  is-worded-reads.Learnt,
+  move-to-reads.Asked,
+  move-to-reads.Learnt,
+) (visit-at t) visit.Post
+visit-same-length t c = c .before .before .before .before .before .before .before .before .visit-inside .kept .1 .1 .1 .1 .0 ∙ c .before .before .before .before .before .before .before .before .before .before .before .before .enter .kept .1 .1 .0
+
+visit-returns-3 : (t : ℕ) → visit-lts.Need-returns-3 (
+  is-looked-at-reads.Asked,
+  is-looked-at-reads.Learnt,
+  pass-reads.Asked,
+  pass-reads.Learnt,
+  tag-fault-at-reads.Asked,
+  tag-fault-at-reads.Learnt,
+  fault-at-reads.Asked,
+  fault-at-reads.Learnt,
+  refused-reads.Asked,
+  refused-reads.Learnt,
+  enter-reads.Asked,
+  enter-reads.Learnt,
+  visit-inside-below t,
+  visit-inside.Post,
+  is-worded-reads.Asked,
+  is-worded-reads.Learnt,
+  move-to-reads.Asked,
+  move-to-reads.Learnt,
+) (visit-at t) visit.Post
+visit-returns-3 t c = let x = inside-moved (c .before .before .before .before .before .before .before .before .before .before .before .before .before .before .before .before .before .before .before .before .args .file .now) _ _ _ _ _ _ _ (c .before .before .before .before .before .before .before .before .before .before .before .before .enter .ensures .1) (c .before .before .before .before .before .before .before .before .visit-inside .ensures) in record { walks = visit-fault (c .before .before .before .before .before .before .before .before .before .before .before .before .before .before .before .before .before .before .before .before .args .file .now) _ _ _ _ _ (c .before .before .before .before .before .before .before .before .before .before .before .before .before .before .before .before .before .is-looked-at .ensures (c .before .before .before .before .before .before .before .before .before .before .before .before .before .before .before .before .before .before .before .before .args .marks .now)) (c .before .before .before .before .before .before .before .before .before .before .before .before .before .before .before .before .if1 .left) 6 (stray-fault (c .before .before .before .before .before .before .before .before .before .before .before .before .before .before .before .before .before .before .before .before .args .file .now) _ _ _ _ (c .before .before .before .before .before .before .before .before .before .before .before .before .before .before .before .tag-fault-at .ensures) (c .before .before .before .before .before .before .before .before .before .before .before .before .before .before .if2 .left) _ _ (c .before .before .before .before .is-worded .ensures) (x .strays) (c .before .before .if3 .taken)) _ (ready-deep _ _ _ _ (c .before .before .before .before .before .before .before .before .before .before .before .before .before .before .before .before .before .before .before .before .pre .1)) (λ e. omega arith) _ (c .move-to .ensures .0 _ ∙ (c .before .refused2 .ensures .0 _ ∙ refused-same _ _ _ _ _)); ends = c .move-to .ensures .1 ∙ x .ends }
+
+visit-same-length-2 : (t : ℕ) → visit-lts.Need-same-length-2 (
+  is-looked-at-reads.Asked,
+  is-looked-at-reads.Learnt,
+  pass-reads.Asked,
+  pass-reads.Learnt,
+  tag-fault-at-reads.Asked,
+  tag-fault-at-reads.Learnt,
+  fault-at-reads.Asked,
+  fault-at-reads.Learnt,
+  refused-reads.Asked,
+  refused-reads.Learnt,
+  enter-reads.Asked,
+  enter-reads.Learnt,
+  visit-inside-below t,
+  visit-inside.Post,
+  is-worded-reads.Asked,
+  is-worded-reads.Learnt,
+  move-to-reads.Asked,
+  move-to-reads.Learnt,
+) (visit-at t) visit.Post
+visit-same-length-2 t c = c .before .before .before .before .before .before .visit-inside .kept .1 .1 .1 .1 .0 ∙ c .before .before .before .before .before .before .before .before .before .before .enter .kept .1 .1 .0
 
 visit-returns-4 : (t : ℕ) → visit-lts.Need-returns-4 (
   is-looked-at-reads.Asked,
   is-looked-at-reads.Learnt,
+  pass-reads.Asked,
+  pass-reads.Learnt,
+  tag-fault-at-reads.Asked,
+  tag-fault-at-reads.Learnt,
   fault-at-reads.Asked,
   fault-at-reads.Learnt,
   refused-reads.Asked,
   refused-reads.Learnt,
-  enter-found-reads.Asked,
-  enter-found-reads.Learnt,
+  enter-reads.Asked,
+  enter-reads.Learnt,
   visit-inside-below t,
   visit-inside.Post,
+  is-worded-reads.Asked,
+  is-worded-reads.Learnt,
+  move-to-reads.Asked,
+  move-to-reads.Learnt,
 ) (visit-at t) visit.Post
-visit-returns-4 t c = visit-good (c .before .before .before .before .before .before .before .before .args .file .now) _ _ _ _ _ (c .before .before .before .before .before .is-looked-at .ensures) (c .before .before .before .before .if2 .left) _ (c .before .before .before .fault-at .ensures) _ (c .before .before .before .before .before .before .if1 .left) (c .before .before .if3 .left) _ _ (c .before .enter-found .ensures) (c .visit-inside .ensures)
+visit-returns-4 t c = let x = inside-moved (c .before .before .before .before .before .before .before .before .before .before .before .before .before .before .before .before .before .before .args .file .now) _ _ _ _ _ _ _ (c .before .before .before .before .before .before .before .before .before .before .enter .ensures .1) (c .before .before .before .before .before .before .visit-inside .ensures) in record { walks = visit-good (c .before .before .before .before .before .before .before .before .before .before .before .before .before .before .before .before .before .before .args .file .now) _ _ _ _ _ (c .before .before .before .before .before .before .before .before .before .before .before .before .before .before .before .is-looked-at .ensures (c .before .before .before .before .before .before .before .before .before .before .before .before .before .before .before .before .before .before .args .marks .now)) (c .before .before .before .before .before .before .before .before .before .before .before .before .before .before .if1 .left) 0 (no-fault (c .before .before .before .before .before .before .before .before .before .before .before .before .before .before .before .before .before .before .args .file .now) _ _ _ _ (c .before .before .before .before .before .before .before .before .before .before .before .before .before .tag-fault-at .ensures) (c .before .before .before .before .before .before .before .before .before .before .before .before .if2 .left) _ _ (c .before .before .is-worded .ensures) (x .strays) (c .if3 .left)) _ (ready-deep _ _ _ _ (c .before .before .before .before .before .before .before .before .before .before .before .before .before .before .before .before .before .before .pre .1)) refl _ _ (c .before .before .before .before .before .before .before .before .before .before .enter .ensures .0) (x .walks); ends = x .ends }
 
 abbrev visit-inside-Inv-loop : visit-inside-lts.InvT-loop
-visit-inside-Inv-loop file i kind left o all₀ j₀ seen₀ all j seen = VisitTurn file left kind j seen all (visitBody (visitFrom file left) file kind all₀ (contentAt file i))
+visit-inside-Inv-loop file kind left marks₀ i o all₀ seen₀ stray₀ marks all seen stray = Inner file left i kind (all .at) seen (found all marks) stray (visitBody (visitFrom file left) file kind (found all₀ marks₀) (contentAt file i)) × (length marks ≡ length marks₀)
 
 abbrev visit-inside-μ-loop : visit-inside-lts.MeasureT-loop
-visit-inside-μ-loop file i kind left o all₀ j₀ seen₀ all j seen = length file - j
+visit-inside-μ-loop file kind left marks₀ i o all₀ seen₀ stray₀ marks all seen stray = length file - all .at
 
 visit-inside-content-at-requires : (t : ℕ) → visit-inside-lts.Need-content-at-requires (
   content-at-reads.Asked,
@@ -209,8 +470,12 @@ visit-inside-content-at-requires : (t : ℕ) → visit-inside-lts.Need-content-a
   none-seen-reads.Learnt,
   close-reads.Asked,
   close-reads.Learnt,
+  move-to-reads.Asked,
+  move-to-reads.Learnt,
   item-at-reads.Asked,
   item-at-reads.Learnt,
+  blanks-end-reads.Asked,
+  blanks-end-reads.Learnt,
   child-at-reads.Asked,
   child-at-reads.Learnt,
   is-over-reads.Asked,
@@ -219,8 +484,6 @@ visit-inside-content-at-requires : (t : ℕ) → visit-inside-lts.Need-content-a
   visit.Post,
   mark-reads.Asked,
   mark-reads.Learnt,
-  skip-reads.Asked,
-  skip-reads.Learnt,
 ) (visit-inside-at t) visit-inside.Post visit-inside-Inv-loop visit-inside-μ-loop
 visit-inside-content-at-requires t c κs = search needs
 
@@ -231,8 +494,12 @@ visit-inside-enum-told : (t : ℕ) → visit-inside-lts.Need-enum-told (
   none-seen-reads.Learnt,
   close-reads.Asked,
   close-reads.Learnt,
+  move-to-reads.Asked,
+  move-to-reads.Learnt,
   item-at-reads.Asked,
   item-at-reads.Learnt,
+  blanks-end-reads.Asked,
+  blanks-end-reads.Learnt,
   child-at-reads.Asked,
   child-at-reads.Learnt,
   is-over-reads.Asked,
@@ -241,32 +508,8 @@ visit-inside-enum-told : (t : ℕ) → visit-inside-lts.Need-enum-told (
   visit.Post,
   mark-reads.Asked,
   mark-reads.Learnt,
-  skip-reads.Asked,
-  skip-reads.Learnt,
 ) (visit-inside-at t) visit-inside.Post visit-inside-Inv-loop visit-inside-μ-loop
 visit-inside-enum-told t c = search needs
-
-visit-inside-enum-told-2 : (t : ℕ) → visit-inside-lts.Need-enum-told-2 (
-  content-at-reads.Asked,
-  content-at-reads.Learnt,
-  none-seen-reads.Asked,
-  none-seen-reads.Learnt,
-  close-reads.Asked,
-  close-reads.Learnt,
-  item-at-reads.Asked,
-  item-at-reads.Learnt,
-  child-at-reads.Asked,
-  child-at-reads.Learnt,
-  is-over-reads.Asked,
-  is-over-reads.Learnt,
-  visit-below t,
-  visit.Post,
-  mark-reads.Asked,
-  mark-reads.Learnt,
-  skip-reads.Asked,
-  skip-reads.Learnt,
-) (visit-inside-at t) visit-inside.Post visit-inside-Inv-loop visit-inside-μ-loop
-visit-inside-enum-told-2 t c = search needs
 
 visit-inside-none-seen-requires : (t : ℕ) → visit-inside-lts.Need-none-seen-requires (
   content-at-reads.Asked,
@@ -275,8 +518,12 @@ visit-inside-none-seen-requires : (t : ℕ) → visit-inside-lts.Need-none-seen-
   none-seen-reads.Learnt,
   close-reads.Asked,
   close-reads.Learnt,
+  move-to-reads.Asked,
+  move-to-reads.Learnt,
   item-at-reads.Asked,
   item-at-reads.Learnt,
+  blanks-end-reads.Asked,
+  blanks-end-reads.Learnt,
   child-at-reads.Asked,
   child-at-reads.Learnt,
   is-over-reads.Asked,
@@ -285,8 +532,6 @@ visit-inside-none-seen-requires : (t : ℕ) → visit-inside-lts.Need-none-seen-
   visit.Post,
   mark-reads.Asked,
   mark-reads.Learnt,
-  skip-reads.Asked,
-  skip-reads.Learnt,
 ) (visit-inside-at t) visit-inside.Post visit-inside-Inv-loop visit-inside-μ-loop
 visit-inside-none-seen-requires t c κs = search needs
 
@@ -297,8 +542,12 @@ visit-inside-close-requires : (t : ℕ) → visit-inside-lts.Need-close-requires
   none-seen-reads.Learnt,
   close-reads.Asked,
   close-reads.Learnt,
+  move-to-reads.Asked,
+  move-to-reads.Learnt,
   item-at-reads.Asked,
   item-at-reads.Learnt,
+  blanks-end-reads.Asked,
+  blanks-end-reads.Learnt,
   child-at-reads.Asked,
   child-at-reads.Learnt,
   is-over-reads.Asked,
@@ -307,20 +556,22 @@ visit-inside-close-requires : (t : ℕ) → visit-inside-lts.Need-close-requires
   visit.Post,
   mark-reads.Asked,
   mark-reads.Learnt,
-  skip-reads.Asked,
-  skip-reads.Learnt,
 ) (visit-inside-at t) visit-inside.Post visit-inside-Inv-loop visit-inside-μ-loop
 visit-inside-close-requires t c κs = search needs
 
-visit-inside-enum-known-o : (t : ℕ) → visit-inside-lts.Need-enum-known-o (
+visit-inside-enum-known-e : (t : ℕ) → visit-inside-lts.Need-enum-known-e (
   content-at-reads.Asked,
   content-at-reads.Learnt,
   none-seen-reads.Asked,
   none-seen-reads.Learnt,
   close-reads.Asked,
   close-reads.Learnt,
+  move-to-reads.Asked,
+  move-to-reads.Learnt,
   item-at-reads.Asked,
   item-at-reads.Learnt,
+  blanks-end-reads.Asked,
+  blanks-end-reads.Learnt,
   child-at-reads.Asked,
   child-at-reads.Learnt,
   is-over-reads.Asked,
@@ -329,10 +580,8 @@ visit-inside-enum-known-o : (t : ℕ) → visit-inside-lts.Need-enum-known-o (
   visit.Post,
   mark-reads.Asked,
   mark-reads.Learnt,
-  skip-reads.Asked,
-  skip-reads.Learnt,
 ) (visit-inside-at t) visit-inside.Post visit-inside-Inv-loop visit-inside-μ-loop
-visit-inside-enum-known-o t c = search needs
+visit-inside-enum-known-e t c = search needs
 
 visit-inside-none-seen-requires-2 : (t : ℕ) → visit-inside-lts.Need-none-seen-requires-2 (
   content-at-reads.Asked,
@@ -341,8 +590,12 @@ visit-inside-none-seen-requires-2 : (t : ℕ) → visit-inside-lts.Need-none-see
   none-seen-reads.Learnt,
   close-reads.Asked,
   close-reads.Learnt,
+  move-to-reads.Asked,
+  move-to-reads.Learnt,
   item-at-reads.Asked,
   item-at-reads.Learnt,
+  blanks-end-reads.Asked,
+  blanks-end-reads.Learnt,
   child-at-reads.Asked,
   child-at-reads.Learnt,
   is-over-reads.Asked,
@@ -351,10 +604,104 @@ visit-inside-none-seen-requires-2 : (t : ℕ) → visit-inside-lts.Need-none-see
   visit.Post,
   mark-reads.Asked,
   mark-reads.Learnt,
-  skip-reads.Asked,
-  skip-reads.Learnt,
 ) (visit-inside-at t) visit-inside.Post visit-inside-Inv-loop visit-inside-μ-loop
 visit-inside-none-seen-requires-2 t c κs = search needs
+
+visit-inside-close-requires-2 : (t : ℕ) → visit-inside-lts.Need-close-requires-2 (
+  content-at-reads.Asked,
+  content-at-reads.Learnt,
+  none-seen-reads.Asked,
+  none-seen-reads.Learnt,
+  close-reads.Asked,
+  close-reads.Learnt,
+  move-to-reads.Asked,
+  move-to-reads.Learnt,
+  item-at-reads.Asked,
+  item-at-reads.Learnt,
+  blanks-end-reads.Asked,
+  blanks-end-reads.Learnt,
+  child-at-reads.Asked,
+  child-at-reads.Learnt,
+  is-over-reads.Asked,
+  is-over-reads.Learnt,
+  visit-below t,
+  visit.Post,
+  mark-reads.Asked,
+  mark-reads.Learnt,
+) (visit-inside-at t) visit-inside.Post visit-inside-Inv-loop visit-inside-μ-loop
+visit-inside-close-requires-2 t c κs = search needs
+
+visit-inside-enum-known-o : (t : ℕ) → visit-inside-lts.Need-enum-known-o (
+  content-at-reads.Asked,
+  content-at-reads.Learnt,
+  none-seen-reads.Asked,
+  none-seen-reads.Learnt,
+  close-reads.Asked,
+  close-reads.Learnt,
+  move-to-reads.Asked,
+  move-to-reads.Learnt,
+  item-at-reads.Asked,
+  item-at-reads.Learnt,
+  blanks-end-reads.Asked,
+  blanks-end-reads.Learnt,
+  child-at-reads.Asked,
+  child-at-reads.Learnt,
+  is-over-reads.Asked,
+  is-over-reads.Learnt,
+  visit-below t,
+  visit.Post,
+  mark-reads.Asked,
+  mark-reads.Learnt,
+) (visit-inside-at t) visit-inside.Post visit-inside-Inv-loop visit-inside-μ-loop
+visit-inside-enum-known-o t c = search needs
+
+visit-inside-move-to-requires : (t : ℕ) → visit-inside-lts.Need-move-to-requires (
+  content-at-reads.Asked,
+  content-at-reads.Learnt,
+  none-seen-reads.Asked,
+  none-seen-reads.Learnt,
+  close-reads.Asked,
+  close-reads.Learnt,
+  move-to-reads.Asked,
+  move-to-reads.Learnt,
+  item-at-reads.Asked,
+  item-at-reads.Learnt,
+  blanks-end-reads.Asked,
+  blanks-end-reads.Learnt,
+  child-at-reads.Asked,
+  child-at-reads.Learnt,
+  is-over-reads.Asked,
+  is-over-reads.Learnt,
+  visit-below t,
+  visit.Post,
+  mark-reads.Asked,
+  mark-reads.Learnt,
+) (visit-inside-at t) visit-inside.Post visit-inside-Inv-loop visit-inside-μ-loop
+visit-inside-move-to-requires t c κs = search needs
+
+visit-inside-none-seen-requires-3 : (t : ℕ) → visit-inside-lts.Need-none-seen-requires-3 (
+  content-at-reads.Asked,
+  content-at-reads.Learnt,
+  none-seen-reads.Asked,
+  none-seen-reads.Learnt,
+  close-reads.Asked,
+  close-reads.Learnt,
+  move-to-reads.Asked,
+  move-to-reads.Learnt,
+  item-at-reads.Asked,
+  item-at-reads.Learnt,
+  blanks-end-reads.Asked,
+  blanks-end-reads.Learnt,
+  child-at-reads.Asked,
+  child-at-reads.Learnt,
+  is-over-reads.Asked,
+  is-over-reads.Learnt,
+  visit-below t,
+  visit.Post,
+  mark-reads.Asked,
+  mark-reads.Learnt,
+) (visit-inside-at t) visit-inside.Post visit-inside-Inv-loop visit-inside-μ-loop
+visit-inside-none-seen-requires-3 t c κs = search needs
 
 visit-inside-loop-holds : (t : ℕ) → visit-inside-lts.Need-loop-holds (
   content-at-reads.Asked,
@@ -363,8 +710,12 @@ visit-inside-loop-holds : (t : ℕ) → visit-inside-lts.Need-loop-holds (
   none-seen-reads.Learnt,
   close-reads.Asked,
   close-reads.Learnt,
+  move-to-reads.Asked,
+  move-to-reads.Learnt,
   item-at-reads.Asked,
   item-at-reads.Learnt,
+  blanks-end-reads.Asked,
+  blanks-end-reads.Learnt,
   child-at-reads.Asked,
   child-at-reads.Learnt,
   is-over-reads.Asked,
@@ -373,10 +724,8 @@ visit-inside-loop-holds : (t : ℕ) → visit-inside-lts.Need-loop-holds (
   visit.Post,
   mark-reads.Asked,
   mark-reads.Learnt,
-  skip-reads.Asked,
-  skip-reads.Learnt,
 ) (visit-inside-at t) visit-inside.Post visit-inside-Inv-loop visit-inside-μ-loop
-visit-inside-loop-holds t c = inside-open (c .before .before .before .before .before .before .args .file .now) (c .before .before .before .before .before .before .args .i) _ _ _ _ (c .before .before .before .before .content-at .ensures) _ _ (c .before .before .o .given .1) (c .none-seen2 .ensures)
+visit-inside-loop-holds t c = (inner-start (c .before .before .before .before .before .before .before .before .args .file .now) _ _ _ (c .before .before .before .before .before .before .before .before .pre .1) _ _ _ _ _ (sym (c .before .before .before .before .before .content-at .ensures) ∙ c .before .before .before .o .given .1) (c .before .move-to .ensures .1) (c .none-seen3 .ensures), refl)
 
 visit-inside-item-at-requires : (t : ℕ) → visit-inside-lts.Need-item-at-requires (
   content-at-reads.Asked,
@@ -385,8 +734,12 @@ visit-inside-item-at-requires : (t : ℕ) → visit-inside-lts.Need-item-at-requ
   none-seen-reads.Learnt,
   close-reads.Asked,
   close-reads.Learnt,
+  move-to-reads.Asked,
+  move-to-reads.Learnt,
   item-at-reads.Asked,
   item-at-reads.Learnt,
+  blanks-end-reads.Asked,
+  blanks-end-reads.Learnt,
   child-at-reads.Asked,
   child-at-reads.Learnt,
   is-over-reads.Asked,
@@ -395,8 +748,6 @@ visit-inside-item-at-requires : (t : ℕ) → visit-inside-lts.Need-item-at-requ
   visit.Post,
   mark-reads.Asked,
   mark-reads.Learnt,
-  skip-reads.Asked,
-  skip-reads.Learnt,
 ) (visit-inside-at t) visit-inside.Post visit-inside-Inv-loop visit-inside-μ-loop
 visit-inside-item-at-requires t c κs = search needs
 
@@ -407,8 +758,12 @@ visit-inside-enum-known-k : (t : ℕ) → visit-inside-lts.Need-enum-known-k (
   none-seen-reads.Learnt,
   close-reads.Asked,
   close-reads.Learnt,
+  move-to-reads.Asked,
+  move-to-reads.Learnt,
   item-at-reads.Asked,
   item-at-reads.Learnt,
+  blanks-end-reads.Asked,
+  blanks-end-reads.Learnt,
   child-at-reads.Asked,
   child-at-reads.Learnt,
   is-over-reads.Asked,
@@ -417,10 +772,32 @@ visit-inside-enum-known-k : (t : ℕ) → visit-inside-lts.Need-enum-known-k (
   visit.Post,
   mark-reads.Asked,
   mark-reads.Learnt,
-  skip-reads.Asked,
-  skip-reads.Learnt,
 ) (visit-inside-at t) visit-inside.Post visit-inside-Inv-loop visit-inside-μ-loop
 visit-inside-enum-known-k t c = search needs
+
+visit-inside-blanks-end-requires : (t : ℕ) → visit-inside-lts.Need-blanks-end-requires (
+  content-at-reads.Asked,
+  content-at-reads.Learnt,
+  none-seen-reads.Asked,
+  none-seen-reads.Learnt,
+  close-reads.Asked,
+  close-reads.Learnt,
+  move-to-reads.Asked,
+  move-to-reads.Learnt,
+  item-at-reads.Asked,
+  item-at-reads.Learnt,
+  blanks-end-reads.Asked,
+  blanks-end-reads.Learnt,
+  child-at-reads.Asked,
+  child-at-reads.Learnt,
+  is-over-reads.Asked,
+  is-over-reads.Learnt,
+  visit-below t,
+  visit.Post,
+  mark-reads.Asked,
+  mark-reads.Learnt,
+) (visit-inside-at t) visit-inside.Post visit-inside-Inv-loop visit-inside-μ-loop
+visit-inside-blanks-end-requires t c κs = search needs
 
 visit-inside-loop-less : (t : ℕ) → visit-inside-lts.Need-loop-less (
   content-at-reads.Asked,
@@ -429,8 +806,12 @@ visit-inside-loop-less : (t : ℕ) → visit-inside-lts.Need-loop-less (
   none-seen-reads.Learnt,
   close-reads.Asked,
   close-reads.Learnt,
+  move-to-reads.Asked,
+  move-to-reads.Learnt,
   item-at-reads.Asked,
   item-at-reads.Learnt,
+  blanks-end-reads.Asked,
+  blanks-end-reads.Learnt,
   child-at-reads.Asked,
   child-at-reads.Learnt,
   is-over-reads.Asked,
@@ -439,10 +820,8 @@ visit-inside-loop-less : (t : ℕ) → visit-inside-lts.Need-loop-less (
   visit.Post,
   mark-reads.Asked,
   mark-reads.Learnt,
-  skip-reads.Asked,
-  skip-reads.Learnt,
 ) (visit-inside-at t) visit-inside.Post visit-inside-Inv-loop visit-inside-μ-loop
-visit-inside-loop-less t c = let h = item-from (c .before .before .before .before .before .before .before .before .before .before .before .before .args .file .now) (c .before .before .before .before .before .loop .j) _ (sym (c .before .k .given .1) ∙ c .before .before .before .item-at .ensures) in omega (arith, h .0, h .1)
+visit-inside-loop-less t c = let h = item-from (c .before .before .before .before .before .before .before .before .before .before .before .before .before .before .before .before .args .file .now) (c .before .before .before .before .before .before .before .loop .all .at) _ (sym (c .before .before .k .given .1) ∙ c .before .before .before .before .item-at .ensures) in omega (arith, h .0, h .1, c .before .before .before .before .before .if1 .taken)
 
 visit-inside-loop-again : (t : ℕ) → visit-inside-lts.Need-loop-again (
   content-at-reads.Asked,
@@ -451,8 +830,12 @@ visit-inside-loop-again : (t : ℕ) → visit-inside-lts.Need-loop-again (
   none-seen-reads.Learnt,
   close-reads.Asked,
   close-reads.Learnt,
+  move-to-reads.Asked,
+  move-to-reads.Learnt,
   item-at-reads.Asked,
   item-at-reads.Learnt,
+  blanks-end-reads.Asked,
+  blanks-end-reads.Learnt,
   child-at-reads.Asked,
   child-at-reads.Learnt,
   is-over-reads.Asked,
@@ -461,10 +844,9 @@ visit-inside-loop-again : (t : ℕ) → visit-inside-lts.Need-loop-again (
   visit.Post,
   mark-reads.Asked,
   mark-reads.Learnt,
-  skip-reads.Asked,
-  skip-reads.Learnt,
 ) (visit-inside-at t) visit-inside.Post visit-inside-Inv-loop visit-inside-μ-loop
-visit-inside-loop-again t c = on-text (c .before .before .before .before .before .before .before .before .before .before .before .before .args .file .now) _ _ (c .before .before .before .before .before .loop .j) _ _ _ (c .before .before .before .before .before .loop .inv) (c .before .before .before .before .loop-test .taken) _ (sym (c .before .k .given .1) ∙ c .before .before .before .item-at .ensures)
+unfolding found
+visit-inside-loop-again t c = (inner-text (c .before .before .before .before .before .before .before .before .before .before .before .before .before .before .before .before .args .file .now) _ _ _ (c .before .before .before .before .before .before .before .loop .all .at) _ _ _ _ (c .before .before .before .before .before .before .before .loop .inv .0) (c .before .before .before .before .before .if1 .taken) _ _ (sym (c .before .before .k .given .1) ∙ c .before .before .before .before .item-at .ensures) (c .blanks-end .ensures), c .before .before .before .before .before .before .before .loop .inv .1)
 
 visit-inside-enum-known-k-2 : (t : ℕ) → visit-inside-lts.Need-enum-known-k-2 (
   content-at-reads.Asked,
@@ -473,8 +855,12 @@ visit-inside-enum-known-k-2 : (t : ℕ) → visit-inside-lts.Need-enum-known-k-2
   none-seen-reads.Learnt,
   close-reads.Asked,
   close-reads.Learnt,
+  move-to-reads.Asked,
+  move-to-reads.Learnt,
   item-at-reads.Asked,
   item-at-reads.Learnt,
+  blanks-end-reads.Asked,
+  blanks-end-reads.Learnt,
   child-at-reads.Asked,
   child-at-reads.Learnt,
   is-over-reads.Asked,
@@ -483,8 +869,6 @@ visit-inside-enum-known-k-2 : (t : ℕ) → visit-inside-lts.Need-enum-known-k-2
   visit.Post,
   mark-reads.Asked,
   mark-reads.Learnt,
-  skip-reads.Asked,
-  skip-reads.Learnt,
 ) (visit-inside-at t) visit-inside.Post visit-inside-Inv-loop visit-inside-μ-loop
 visit-inside-enum-known-k-2 t c = search needs
 
@@ -495,8 +879,12 @@ visit-inside-loop-less-2 : (t : ℕ) → visit-inside-lts.Need-loop-less-2 (
   none-seen-reads.Learnt,
   close-reads.Asked,
   close-reads.Learnt,
+  move-to-reads.Asked,
+  move-to-reads.Learnt,
   item-at-reads.Asked,
   item-at-reads.Learnt,
+  blanks-end-reads.Asked,
+  blanks-end-reads.Learnt,
   child-at-reads.Asked,
   child-at-reads.Learnt,
   is-over-reads.Asked,
@@ -505,10 +893,8 @@ visit-inside-loop-less-2 : (t : ℕ) → visit-inside-lts.Need-loop-less-2 (
   visit.Post,
   mark-reads.Asked,
   mark-reads.Learnt,
-  skip-reads.Asked,
-  skip-reads.Learnt,
 ) (visit-inside-at t) visit-inside.Post visit-inside-Inv-loop visit-inside-μ-loop
-visit-inside-loop-less-2 t c = let h = item-from (c .before .before .before .before .before .before .before .before .before .before .before .before .args .file .now) (c .before .before .before .before .before .loop .j) _ (sym (c .before .k2 .given .1) ∙ c .before .before .before .item-at .ensures) in omega (arith, h .0, h .1)
+visit-inside-loop-less-2 t c = let h = item-from (c .before .before .before .before .before .before .before .before .before .before .before .before .before .before .before .args .file .now) (c .before .before .before .before .before .before .loop .all .at) _ (sym (c .before .k2 .given .1) ∙ c .before .before .before .item-at .ensures) in omega (arith, h .0, h .1, c .before .before .before .before .if1 .taken)
 
 visit-inside-loop-again-2 : (t : ℕ) → visit-inside-lts.Need-loop-again-2 (
   content-at-reads.Asked,
@@ -517,8 +903,12 @@ visit-inside-loop-again-2 : (t : ℕ) → visit-inside-lts.Need-loop-again-2 (
   none-seen-reads.Learnt,
   close-reads.Asked,
   close-reads.Learnt,
+  move-to-reads.Asked,
+  move-to-reads.Learnt,
   item-at-reads.Asked,
   item-at-reads.Learnt,
+  blanks-end-reads.Asked,
+  blanks-end-reads.Learnt,
   child-at-reads.Asked,
   child-at-reads.Learnt,
   is-over-reads.Asked,
@@ -527,20 +917,23 @@ visit-inside-loop-again-2 : (t : ℕ) → visit-inside-lts.Need-loop-again-2 (
   visit.Post,
   mark-reads.Asked,
   mark-reads.Learnt,
-  skip-reads.Asked,
-  skip-reads.Learnt,
 ) (visit-inside-at t) visit-inside.Post visit-inside-Inv-loop visit-inside-μ-loop
-visit-inside-loop-again-2 t c = on-remark (c .before .before .before .before .before .before .before .before .before .before .before .before .args .file .now) _ _ (c .before .before .before .before .before .loop .j) _ _ _ (c .before .before .before .before .before .loop .inv) (c .before .before .before .before .loop-test .taken) _ (sym (c .before .k2 .given .1) ∙ c .before .before .before .item-at .ensures)
+unfolding found
+visit-inside-loop-again-2 t c = (inner-remark (c .before .before .before .before .before .before .before .before .before .before .before .before .before .before .before .args .file .now) _ _ _ (c .before .before .before .before .before .before .loop .all .at) _ _ _ _ (c .before .before .before .before .before .before .loop .inv .0) (c .before .before .before .before .if1 .taken) _ (sym (c .before .k2 .given .1) ∙ c .before .before .before .item-at .ensures), c .before .before .before .before .before .before .loop .inv .1)
 
-visit-inside-enum-told-3 : (t : ℕ) → visit-inside-lts.Need-enum-told-3 (
+visit-inside-enum-told-2 : (t : ℕ) → visit-inside-lts.Need-enum-told-2 (
   content-at-reads.Asked,
   content-at-reads.Learnt,
   none-seen-reads.Asked,
   none-seen-reads.Learnt,
   close-reads.Asked,
   close-reads.Learnt,
+  move-to-reads.Asked,
+  move-to-reads.Learnt,
   item-at-reads.Asked,
   item-at-reads.Learnt,
+  blanks-end-reads.Asked,
+  blanks-end-reads.Learnt,
   child-at-reads.Asked,
   child-at-reads.Learnt,
   is-over-reads.Asked,
@@ -549,10 +942,8 @@ visit-inside-enum-told-3 : (t : ℕ) → visit-inside-lts.Need-enum-told-3 (
   visit.Post,
   mark-reads.Asked,
   mark-reads.Learnt,
-  skip-reads.Asked,
-  skip-reads.Learnt,
 ) (visit-inside-at t) visit-inside.Post visit-inside-Inv-loop visit-inside-μ-loop
-visit-inside-enum-told-3 t c = search needs
+visit-inside-enum-told-2 t c = search needs
 
 visit-inside-child-at-requires : (t : ℕ) → visit-inside-lts.Need-child-at-requires (
   content-at-reads.Asked,
@@ -561,8 +952,12 @@ visit-inside-child-at-requires : (t : ℕ) → visit-inside-lts.Need-child-at-re
   none-seen-reads.Learnt,
   close-reads.Asked,
   close-reads.Learnt,
+  move-to-reads.Asked,
+  move-to-reads.Learnt,
   item-at-reads.Asked,
   item-at-reads.Learnt,
+  blanks-end-reads.Asked,
+  blanks-end-reads.Learnt,
   child-at-reads.Asked,
   child-at-reads.Learnt,
   is-over-reads.Asked,
@@ -571,8 +966,6 @@ visit-inside-child-at-requires : (t : ℕ) → visit-inside-lts.Need-child-at-re
   visit.Post,
   mark-reads.Asked,
   mark-reads.Learnt,
-  skip-reads.Asked,
-  skip-reads.Learnt,
 ) (visit-inside-at t) visit-inside.Post visit-inside-Inv-loop visit-inside-μ-loop
 visit-inside-child-at-requires t c κs = search needs
 
@@ -583,8 +976,12 @@ visit-inside-is-over-requires : (t : ℕ) → visit-inside-lts.Need-is-over-requ
   none-seen-reads.Learnt,
   close-reads.Asked,
   close-reads.Learnt,
+  move-to-reads.Asked,
+  move-to-reads.Learnt,
   item-at-reads.Asked,
   item-at-reads.Learnt,
+  blanks-end-reads.Asked,
+  blanks-end-reads.Learnt,
   child-at-reads.Asked,
   child-at-reads.Learnt,
   is-over-reads.Asked,
@@ -593,8 +990,6 @@ visit-inside-is-over-requires : (t : ℕ) → visit-inside-lts.Need-is-over-requ
   visit.Post,
   mark-reads.Asked,
   mark-reads.Learnt,
-  skip-reads.Asked,
-  skip-reads.Learnt,
 ) (visit-inside-at t) visit-inside.Post visit-inside-Inv-loop visit-inside-μ-loop
 visit-inside-is-over-requires t c κs = search needs
 
@@ -605,8 +1000,12 @@ visit-inside-visit-requires : (t : ℕ) → visit-inside-lts.Need-visit-requires
   none-seen-reads.Learnt,
   close-reads.Asked,
   close-reads.Learnt,
+  move-to-reads.Asked,
+  move-to-reads.Learnt,
   item-at-reads.Asked,
   item-at-reads.Learnt,
+  blanks-end-reads.Asked,
+  blanks-end-reads.Learnt,
   child-at-reads.Asked,
   child-at-reads.Learnt,
   is-over-reads.Asked,
@@ -615,10 +1014,8 @@ visit-inside-visit-requires : (t : ℕ) → visit-inside-lts.Need-visit-requires
   visit.Post,
   mark-reads.Asked,
   mark-reads.Learnt,
-  skip-reads.Asked,
-  skip-reads.Learnt,
 ) (visit-inside-at t) visit-inside.Post visit-inside-Inv-loop visit-inside-μ-loop
-visit-inside-visit-requires t c κs = (omega (arith, c .before .before .before .before .before .before .before .before .before .before .before .before .before .pre .0), tt)
+visit-inside-visit-requires t c κs = (omega (arith, c .before .before .before .before .before .before .before .before .before .before .before .before .before .before .before .before .before .pre .0), child-ready (c .before .before .before .before .before .before .before .before .before .before .before .before .before .before .before .before .before .args .file .now) _ _ _ (c .before .before .before .before .before .before .before .before .loop .all .at) _ _ _ _ (c .before .before .before .before .before .before .before .before .loop .inv .0) (c .before .before .before .before .before .before .if1 .taken) _ _ (c .before .before .before .before .before .before .before .before .before .before .before .before .before .before .before .before .before .pre .1) (c .before .before .before .before .before .before .before .before .loop .inv .1) (sym (c .before .before .before .enum-told2 .given .1) ∙ c .before .before .before .before .before .item-at .ensures))
 
 visit-inside-mark-requires : (t : ℕ) → visit-inside-lts.Need-mark-requires (
   content-at-reads.Asked,
@@ -627,8 +1024,12 @@ visit-inside-mark-requires : (t : ℕ) → visit-inside-lts.Need-mark-requires (
   none-seen-reads.Learnt,
   close-reads.Asked,
   close-reads.Learnt,
+  move-to-reads.Asked,
+  move-to-reads.Learnt,
   item-at-reads.Asked,
   item-at-reads.Learnt,
+  blanks-end-reads.Asked,
+  blanks-end-reads.Learnt,
   child-at-reads.Asked,
   child-at-reads.Learnt,
   is-over-reads.Asked,
@@ -637,32 +1038,8 @@ visit-inside-mark-requires : (t : ℕ) → visit-inside-lts.Need-mark-requires (
   visit.Post,
   mark-reads.Asked,
   mark-reads.Learnt,
-  skip-reads.Asked,
-  skip-reads.Learnt,
 ) (visit-inside-at t) visit-inside.Post visit-inside-Inv-loop visit-inside-μ-loop
 visit-inside-mark-requires t c κs = search needs
-
-visit-inside-skip-requires : (t : ℕ) → visit-inside-lts.Need-skip-requires (
-  content-at-reads.Asked,
-  content-at-reads.Learnt,
-  none-seen-reads.Asked,
-  none-seen-reads.Learnt,
-  close-reads.Asked,
-  close-reads.Learnt,
-  item-at-reads.Asked,
-  item-at-reads.Learnt,
-  child-at-reads.Asked,
-  child-at-reads.Learnt,
-  is-over-reads.Asked,
-  is-over-reads.Learnt,
-  visit-below t,
-  visit.Post,
-  mark-reads.Asked,
-  mark-reads.Learnt,
-  skip-reads.Asked,
-  skip-reads.Learnt,
-) (visit-inside-at t) visit-inside.Post visit-inside-Inv-loop visit-inside-μ-loop
-visit-inside-skip-requires t c κs = search needs
 
 visit-inside-loop-less-3 : (t : ℕ) → visit-inside-lts.Need-loop-less-3 (
   content-at-reads.Asked,
@@ -671,8 +1048,12 @@ visit-inside-loop-less-3 : (t : ℕ) → visit-inside-lts.Need-loop-less-3 (
   none-seen-reads.Learnt,
   close-reads.Asked,
   close-reads.Learnt,
+  move-to-reads.Asked,
+  move-to-reads.Learnt,
   item-at-reads.Asked,
   item-at-reads.Learnt,
+  blanks-end-reads.Asked,
+  blanks-end-reads.Learnt,
   child-at-reads.Asked,
   child-at-reads.Learnt,
   is-over-reads.Asked,
@@ -681,10 +1062,8 @@ visit-inside-loop-less-3 : (t : ℕ) → visit-inside-lts.Need-loop-less-3 (
   visit.Post,
   mark-reads.Asked,
   mark-reads.Learnt,
-  skip-reads.Asked,
-  skip-reads.Learnt,
 ) (visit-inside-at t) visit-inside.Post visit-inside-Inv-loop visit-inside-μ-loop
-visit-inside-loop-less-3 t c = let h = skipped-bounds (c .before .before .before .before .before .before .before .before .before .before .before .before .before .before .before .before .args .file .now) (c .before .before .before .before .before .before .before .before .before .loop .j) (c .before .before .before .before .before .before .before .before .loop-test .taken) in omega (arith, h .0, h .1, c .skip .ensures)
+visit-inside-loop-less-3 t c = let h = skipped-bounds (c .before .before .before .before .before .before .before .before .before .before .before .before .before .before .before .before .before .before .before .before .before .args .file .now) (c .before .before .before .before .before .before .before .before .before .before .before .before .loop .all .at) (c .before .before .before .before .before .before .before .before .before .before .if1 .taken) in omega (arith, h .0, h .1, c .before .before .before .visit .ensures .ends, c .before .before .before .before .before .before .before .before .before .before .if1 .taken)
 
 visit-inside-loop-again-3 : (t : ℕ) → visit-inside-lts.Need-loop-again-3 (
   content-at-reads.Asked,
@@ -693,8 +1072,12 @@ visit-inside-loop-again-3 : (t : ℕ) → visit-inside-lts.Need-loop-again-3 (
   none-seen-reads.Learnt,
   close-reads.Asked,
   close-reads.Learnt,
+  move-to-reads.Asked,
+  move-to-reads.Learnt,
   item-at-reads.Asked,
   item-at-reads.Learnt,
+  blanks-end-reads.Asked,
+  blanks-end-reads.Learnt,
   child-at-reads.Asked,
   child-at-reads.Learnt,
   is-over-reads.Asked,
@@ -703,20 +1086,22 @@ visit-inside-loop-again-3 : (t : ℕ) → visit-inside-lts.Need-loop-again-3 (
   visit.Post,
   mark-reads.Asked,
   mark-reads.Learnt,
-  skip-reads.Asked,
-  skip-reads.Learnt,
 ) (visit-inside-at t) visit-inside.Post visit-inside-Inv-loop visit-inside-μ-loop
-visit-inside-loop-again-3 t c = on-child (c .before .before .before .before .before .before .before .before .before .before .before .before .before .before .before .before .args .file .now) _ _ (c .before .before .before .before .before .before .before .before .before .loop .j) _ _ _ (c .before .before .before .before .before .before .before .before .before .loop .inv) (c .before .before .before .before .before .before .before .before .loop-test .taken) _ _ _ _ _ (sym (c .before .before .before .before .before .enum-told3 .given .1) ∙ c .before .before .before .before .before .before .before .item-at .ensures) (c .before .before .before .before .child-at .ensures) (c .before .before .before .is-over .ensures) (c .before .before .visit .ensures) (c .before .mark .ensures) (c .skip .ensures)
+visit-inside-loop-again-3 t c = (inner-child (c .before .before .before .before .before .before .before .before .before .before .before .before .before .before .before .before .before .before .before .before .before .args .file .now) _ _ _ (c .before .before .before .before .before .before .before .before .before .before .before .before .loop .all .at) _ _ _ _ (c .before .before .before .before .before .before .before .before .before .before .before .before .loop .inv .0) (c .before .before .before .before .before .before .before .before .before .before .if1 .taken) (c .before .before .before .before .before .before .before .before .before .before .before .before .before .before .before .before .before .before .before .before .before .pre .1 .shallow) _ _ _ _ _ (sym (c .before .before .before .before .before .before .before .enum-told2 .given .1) ∙ c .before .before .before .before .before .before .before .before .before .item-at .ensures) (c .before .before .before .before .before .before .child-at .ensures) (c .before .before .before .before .before .is-over .ensures) (c .before .before .before .visit .ensures .walks) (c .mark .ensures) (c .before .before .before .visit .ensures .ends), c .before .before .before .visit .kept .1 .1 .1 .1 .1 .0 ∙ c .before .before .before .before .before .before .before .before .before .before .before .before .loop .inv .1)
 
-visit-inside-enum-told-4 : (t : ℕ) → visit-inside-lts.Need-enum-told-4 (
+visit-inside-enum-known-e-2 : (t : ℕ) → visit-inside-lts.Need-enum-known-e-2 (
   content-at-reads.Asked,
   content-at-reads.Learnt,
   none-seen-reads.Asked,
   none-seen-reads.Learnt,
   close-reads.Asked,
   close-reads.Learnt,
+  move-to-reads.Asked,
+  move-to-reads.Learnt,
   item-at-reads.Asked,
   item-at-reads.Learnt,
+  blanks-end-reads.Asked,
+  blanks-end-reads.Learnt,
   child-at-reads.Asked,
   child-at-reads.Learnt,
   is-over-reads.Asked,
@@ -725,20 +1110,22 @@ visit-inside-enum-told-4 : (t : ℕ) → visit-inside-lts.Need-enum-told-4 (
   visit.Post,
   mark-reads.Asked,
   mark-reads.Learnt,
-  skip-reads.Asked,
-  skip-reads.Learnt,
 ) (visit-inside-at t) visit-inside.Post visit-inside-Inv-loop visit-inside-μ-loop
-visit-inside-enum-told-4 t c = search needs
+visit-inside-enum-known-e-2 t c = search needs
 
-visit-inside-close-requires-2 : (t : ℕ) → visit-inside-lts.Need-close-requires-2 (
+visit-inside-close-requires-3 : (t : ℕ) → visit-inside-lts.Need-close-requires-3 (
   content-at-reads.Asked,
   content-at-reads.Learnt,
   none-seen-reads.Asked,
   none-seen-reads.Learnt,
   close-reads.Asked,
   close-reads.Learnt,
+  move-to-reads.Asked,
+  move-to-reads.Learnt,
   item-at-reads.Asked,
   item-at-reads.Learnt,
+  blanks-end-reads.Asked,
+  blanks-end-reads.Learnt,
   child-at-reads.Asked,
   child-at-reads.Learnt,
   is-over-reads.Asked,
@@ -747,10 +1134,32 @@ visit-inside-close-requires-2 : (t : ℕ) → visit-inside-lts.Need-close-requir
   visit.Post,
   mark-reads.Asked,
   mark-reads.Learnt,
-  skip-reads.Asked,
-  skip-reads.Learnt,
 ) (visit-inside-at t) visit-inside.Post visit-inside-Inv-loop visit-inside-μ-loop
-visit-inside-close-requires-2 t c κs = search needs
+visit-inside-close-requires-3 t c κs = search needs
+
+visit-inside-same-length : (t : ℕ) → visit-inside-lts.Need-same-length (
+  content-at-reads.Asked,
+  content-at-reads.Learnt,
+  none-seen-reads.Asked,
+  none-seen-reads.Learnt,
+  close-reads.Asked,
+  close-reads.Learnt,
+  move-to-reads.Asked,
+  move-to-reads.Learnt,
+  item-at-reads.Asked,
+  item-at-reads.Learnt,
+  blanks-end-reads.Asked,
+  blanks-end-reads.Learnt,
+  child-at-reads.Asked,
+  child-at-reads.Learnt,
+  is-over-reads.Asked,
+  is-over-reads.Learnt,
+  visit-below t,
+  visit.Post,
+  mark-reads.Asked,
+  mark-reads.Learnt,
+) (visit-inside-at t) visit-inside.Post visit-inside-Inv-loop visit-inside-μ-loop
+visit-inside-same-length t c = c .before .before .before .before .before .before .before .loop .inv .1
 
 visit-inside-returns : (t : ℕ) → visit-inside-lts.Need-returns (
   content-at-reads.Asked,
@@ -759,8 +1168,12 @@ visit-inside-returns : (t : ℕ) → visit-inside-lts.Need-returns (
   none-seen-reads.Learnt,
   close-reads.Asked,
   close-reads.Learnt,
+  move-to-reads.Asked,
+  move-to-reads.Learnt,
   item-at-reads.Asked,
   item-at-reads.Learnt,
+  blanks-end-reads.Asked,
+  blanks-end-reads.Learnt,
   child-at-reads.Asked,
   child-at-reads.Learnt,
   is-over-reads.Asked,
@@ -769,20 +1182,22 @@ visit-inside-returns : (t : ℕ) → visit-inside-lts.Need-returns (
   visit.Post,
   mark-reads.Asked,
   mark-reads.Learnt,
-  skip-reads.Asked,
-  skip-reads.Learnt,
 ) (visit-inside-at t) visit-inside.Post visit-inside-Inv-loop visit-inside-μ-loop
-visit-inside-returns t c = on-close (c .before .before .before .before .before .before .before .before .before .before .before .before .args .file .now) _ _ (c .before .before .before .before .before .loop .j) _ _ _ (c .before .before .before .before .before .loop .inv) (c .before .before .before .before .loop-test .taken) (c .before .enum-told4 .given .0 .0) _ (sym (c .before .enum-told4 .given .1) ∙ c .before .before .before .item-at .ensures) (c .close2 .ensures)
+visit-inside-returns t c = inner-leaves (c .before .before .before .before .before .before .before .before .before .before .before .before .before .before .before .before .args .file .now) _ _ _ (c .before .before .before .before .before .before .before .loop .all .at) _ _ _ _ (c .before .before .before .before .before .before .before .loop .inv .0) (c .before .before .before .before .before .if1 .taken) _ _ _ _ (sym (c .before .before .e2 .given .1) ∙ c .before .before .before .before .item-at .ensures) (c .close3 .ensures .0 (c .before .before .before .before .before .before .before .loop .marks)) (c .close3 .ensures .1) (c .close3 .ensures .2) (ap (λ (r : Found). visitBody (visitFrom (c .before .before .before .before .before .before .before .before .before .before .before .before .before .before .before .before .args .file .now) (c .before .before .before .before .before .before .before .before .before .before .before .before .before .before .before .before .args .left)) (c .before .before .before .before .before .before .before .before .before .before .before .before .before .before .before .before .args .file .now) (c .before .before .before .before .before .before .before .before .before .before .before .before .before .before .before .before .args .kind) r (contentAt (c .before .before .before .before .before .before .before .before .before .before .before .before .before .before .before .before .args .file .now) (c .before .before .before .before .before .before .before .before .before .before .before .before .before .before .before .before .args .entered .at))) (c .before .before .before .before .before .before .before .before .before .move-to .ensures .0 (c .before .before .before .before .before .before .before .before .before .before .before .before .before .before .before .before .args .marks .now)))
 
-visit-inside-enum-told-5 : (t : ℕ) → visit-inside-lts.Need-enum-told-5 (
+visit-inside-enum-told-3 : (t : ℕ) → visit-inside-lts.Need-enum-told-3 (
   content-at-reads.Asked,
   content-at-reads.Learnt,
   none-seen-reads.Asked,
   none-seen-reads.Learnt,
   close-reads.Asked,
   close-reads.Learnt,
+  move-to-reads.Asked,
+  move-to-reads.Learnt,
   item-at-reads.Asked,
   item-at-reads.Learnt,
+  blanks-end-reads.Asked,
+  blanks-end-reads.Learnt,
   child-at-reads.Asked,
   child-at-reads.Learnt,
   is-over-reads.Asked,
@@ -791,10 +1206,56 @@ visit-inside-enum-told-5 : (t : ℕ) → visit-inside-lts.Need-enum-told-5 (
   visit.Post,
   mark-reads.Asked,
   mark-reads.Learnt,
-  skip-reads.Asked,
-  skip-reads.Learnt,
 ) (visit-inside-at t) visit-inside.Post visit-inside-Inv-loop visit-inside-μ-loop
-visit-inside-enum-told-5 t c = search needs
+visit-inside-enum-told-3 t c = search needs
+
+visit-inside-close-requires-4 : (t : ℕ) → visit-inside-lts.Need-close-requires-4 (
+  content-at-reads.Asked,
+  content-at-reads.Learnt,
+  none-seen-reads.Asked,
+  none-seen-reads.Learnt,
+  close-reads.Asked,
+  close-reads.Learnt,
+  move-to-reads.Asked,
+  move-to-reads.Learnt,
+  item-at-reads.Asked,
+  item-at-reads.Learnt,
+  blanks-end-reads.Asked,
+  blanks-end-reads.Learnt,
+  child-at-reads.Asked,
+  child-at-reads.Learnt,
+  is-over-reads.Asked,
+  is-over-reads.Learnt,
+  visit-below t,
+  visit.Post,
+  mark-reads.Asked,
+  mark-reads.Learnt,
+) (visit-inside-at t) visit-inside.Post visit-inside-Inv-loop visit-inside-μ-loop
+visit-inside-close-requires-4 t c κs = search needs
+
+visit-inside-same-length-2 : (t : ℕ) → visit-inside-lts.Need-same-length-2 (
+  content-at-reads.Asked,
+  content-at-reads.Learnt,
+  none-seen-reads.Asked,
+  none-seen-reads.Learnt,
+  close-reads.Asked,
+  close-reads.Learnt,
+  move-to-reads.Asked,
+  move-to-reads.Learnt,
+  item-at-reads.Asked,
+  item-at-reads.Learnt,
+  blanks-end-reads.Asked,
+  blanks-end-reads.Learnt,
+  child-at-reads.Asked,
+  child-at-reads.Learnt,
+  is-over-reads.Asked,
+  is-over-reads.Learnt,
+  visit-below t,
+  visit.Post,
+  mark-reads.Asked,
+  mark-reads.Learnt,
+) (visit-inside-at t) visit-inside.Post visit-inside-Inv-loop visit-inside-μ-loop
+visit-inside-same-length-2 t c = c .before .before .before .before .before .before .loop .inv .1
 
 visit-inside-returns-2 : (t : ℕ) → visit-inside-lts.Need-returns-2 (
   content-at-reads.Asked,
@@ -803,8 +1264,12 @@ visit-inside-returns-2 : (t : ℕ) → visit-inside-lts.Need-returns-2 (
   none-seen-reads.Learnt,
   close-reads.Asked,
   close-reads.Learnt,
+  move-to-reads.Asked,
+  move-to-reads.Learnt,
   item-at-reads.Asked,
   item-at-reads.Learnt,
+  blanks-end-reads.Asked,
+  blanks-end-reads.Learnt,
   child-at-reads.Asked,
   child-at-reads.Learnt,
   is-over-reads.Asked,
@@ -813,10 +1278,32 @@ visit-inside-returns-2 : (t : ℕ) → visit-inside-lts.Need-returns-2 (
   visit.Post,
   mark-reads.Asked,
   mark-reads.Learnt,
-  skip-reads.Asked,
-  skip-reads.Learnt,
 ) (visit-inside-at t) visit-inside.Post visit-inside-Inv-loop visit-inside-μ-loop
-visit-inside-returns-2 t c = on-broken (c .before .before .before .before .before .before .before .before .before .before .before .args .file .now) _ _ (c .before .before .before .before .loop .j) _ _ _ (c .before .before .before .before .loop .inv) (c .before .before .before .loop-test .taken) (sym (c .enum-told5 .given .1) ∙ c .before .before .item-at .ensures)
+visit-inside-returns-2 t c = absurd (inner-broken (c .before .before .before .before .before .before .before .before .before .before .before .before .before .before .before .args .file .now) _ _ _ (c .before .before .before .before .before .before .loop .all .at) _ _ _ _ (c .before .before .before .before .before .before .loop .inv .0) (sym (c .before .enum-told3 .given .1) ∙ c .before .before .before .item-at .ensures))
+
+visit-inside-close-requires-5 : (t : ℕ) → visit-inside-lts.Need-close-requires-5 (
+  content-at-reads.Asked,
+  content-at-reads.Learnt,
+  none-seen-reads.Asked,
+  none-seen-reads.Learnt,
+  close-reads.Asked,
+  close-reads.Learnt,
+  move-to-reads.Asked,
+  move-to-reads.Learnt,
+  item-at-reads.Asked,
+  item-at-reads.Learnt,
+  blanks-end-reads.Asked,
+  blanks-end-reads.Learnt,
+  child-at-reads.Asked,
+  child-at-reads.Learnt,
+  is-over-reads.Asked,
+  is-over-reads.Learnt,
+  visit-below t,
+  visit.Post,
+  mark-reads.Asked,
+  mark-reads.Learnt,
+) (visit-inside-at t) visit-inside.Post visit-inside-Inv-loop visit-inside-μ-loop
+visit-inside-close-requires-5 t c κs = search needs
 
 visit-inside-returns-3 : (t : ℕ) → visit-inside-lts.Need-returns-3 (
   content-at-reads.Asked,
@@ -825,8 +1312,12 @@ visit-inside-returns-3 : (t : ℕ) → visit-inside-lts.Need-returns-3 (
   none-seen-reads.Learnt,
   close-reads.Asked,
   close-reads.Learnt,
+  move-to-reads.Asked,
+  move-to-reads.Learnt,
   item-at-reads.Asked,
   item-at-reads.Learnt,
+  blanks-end-reads.Asked,
+  blanks-end-reads.Learnt,
   child-at-reads.Asked,
   child-at-reads.Learnt,
   is-over-reads.Asked,
@@ -835,10 +1326,8 @@ visit-inside-returns-3 : (t : ℕ) → visit-inside-lts.Need-returns-3 (
   visit.Post,
   mark-reads.Asked,
   mark-reads.Learnt,
-  skip-reads.Asked,
-  skip-reads.Learnt,
 ) (visit-inside-at t) visit-inside.Post visit-inside-Inv-loop visit-inside-μ-loop
-visit-inside-returns-3 t c = inside-broken (c .before .before .before .before .args .file .now) (c .before .before .before .before .args .i) _ _ _ _ (c .before .before .content-at .ensures) (c .enum-told .given .1)
+visit-inside-returns-3 t c = absurd (broken-none (c .before .before .before .before .before .before .before .args .file .now) _ _ _ (c .before .before .before .before .before .before .before .pre .1) (sym (c .before .before .enum-told .given .1) ∙ c .before .before .before .before .content-at .ensures))
 
 visit-inside-returns-4 : (t : ℕ) → visit-inside-lts.Need-returns-4 (
   content-at-reads.Asked,
@@ -847,8 +1336,12 @@ visit-inside-returns-4 : (t : ℕ) → visit-inside-lts.Need-returns-4 (
   none-seen-reads.Learnt,
   close-reads.Asked,
   close-reads.Learnt,
+  move-to-reads.Asked,
+  move-to-reads.Learnt,
   item-at-reads.Asked,
   item-at-reads.Learnt,
+  blanks-end-reads.Asked,
+  blanks-end-reads.Learnt,
   child-at-reads.Asked,
   child-at-reads.Learnt,
   is-over-reads.Asked,
@@ -857,10 +1350,32 @@ visit-inside-returns-4 : (t : ℕ) → visit-inside-lts.Need-returns-4 (
   visit.Post,
   mark-reads.Asked,
   mark-reads.Learnt,
-  skip-reads.Asked,
-  skip-reads.Learnt,
 ) (visit-inside-at t) visit-inside.Post visit-inside-Inv-loop visit-inside-μ-loop
-visit-inside-returns-4 t c = inside-empty (c .before .before .before .before .before .before .args .file .now) (c .before .before .before .before .before .before .args .i) _ _ _ _ (c .before .before .before .before .content-at .ensures) (c .before .before .enum-told2 .given .0 .0) _ _ (c .before .before .enum-told2 .given .1) (c .before .none-seen .ensures) (c .close .ensures)
+visit-inside-returns-4 t c = empty-leaves (c .before .before .before .before .before .before .before .before .args .file .now) _ _ _ (c .before .before .before .before .before .before .before .before .pre .1) _ _ _ _ _ _ (sym (c .before .before .before .e .given .1) ∙ c .before .before .before .before .before .content-at .ensures) (c .before .none-seen2 .ensures) (c .close2 .ensures .0 (c .before .before .before .before .before .before .before .before .args .marks .now)) (c .close2 .ensures .1) (c .close2 .ensures .2)
+
+visit-inside-same-length-3 : (t : ℕ) → visit-inside-lts.Need-same-length-3 (
+  content-at-reads.Asked,
+  content-at-reads.Learnt,
+  none-seen-reads.Asked,
+  none-seen-reads.Learnt,
+  close-reads.Asked,
+  close-reads.Learnt,
+  move-to-reads.Asked,
+  move-to-reads.Learnt,
+  item-at-reads.Asked,
+  item-at-reads.Learnt,
+  blanks-end-reads.Asked,
+  blanks-end-reads.Learnt,
+  child-at-reads.Asked,
+  child-at-reads.Learnt,
+  is-over-reads.Asked,
+  is-over-reads.Learnt,
+  visit-below t,
+  visit.Post,
+  mark-reads.Asked,
+  mark-reads.Learnt,
+) (visit-inside-at t) visit-inside.Post visit-inside-Inv-loop visit-inside-μ-loop
+visit-inside-same-length-3 t c = c .before .before .before .loop .inv .1
 
 visit-inside-returns-5 : (t : ℕ) → visit-inside-lts.Need-returns-5 (
   content-at-reads.Asked,
@@ -869,8 +1384,12 @@ visit-inside-returns-5 : (t : ℕ) → visit-inside-lts.Need-returns-5 (
   none-seen-reads.Learnt,
   close-reads.Asked,
   close-reads.Learnt,
+  move-to-reads.Asked,
+  move-to-reads.Learnt,
   item-at-reads.Asked,
   item-at-reads.Learnt,
+  blanks-end-reads.Asked,
+  blanks-end-reads.Learnt,
   child-at-reads.Asked,
   child-at-reads.Learnt,
   is-over-reads.Asked,
@@ -879,35 +1398,49 @@ visit-inside-returns-5 : (t : ℕ) → visit-inside-lts.Need-returns-5 (
   visit.Post,
   mark-reads.Asked,
   mark-reads.Learnt,
-  skip-reads.Asked,
-  skip-reads.Learnt,
 ) (visit-inside-at t) visit-inside.Post visit-inside-Inv-loop visit-inside-μ-loop
-visit-inside-returns-5 t c = on-end (c .before .before .before .before .before .before .before .before .args .file .now) _ _ (c .before .loop .j) _ _ _ (c .before .loop .inv) (c .loop-test .left)
+visit-inside-returns-5 t c = absurd (inner-over (c .before .before .before .before .before .before .before .before .before .before .before .before .args .file .now) _ _ _ (c .before .before .before .loop .all .at) _ _ _ _ (c .before .before .before .loop .inv .0) (c .before .if1 .left))
 
 pub +visit+visit-inside-spec : {M : Type 1} → statement M
 +visit+visit-inside-spec = close μ-visit μ-visit-inside (λ t. visit-lts.spec (
   is-looked-at-reads.Asked,
   is-looked-at-reads.Learnt,
+  pass-reads.Asked,
+  pass-reads.Learnt,
+  tag-fault-at-reads.Asked,
+  tag-fault-at-reads.Learnt,
   fault-at-reads.Asked,
   fault-at-reads.Learnt,
   refused-reads.Asked,
   refused-reads.Learnt,
-  enter-found-reads.Asked,
-  enter-found-reads.Learnt,
+  enter-reads.Asked,
+  enter-reads.Learnt,
   visit-inside-below t,
   visit-inside.Post,
+  is-worded-reads.Asked,
+  is-worded-reads.Learnt,
+  move-to-reads.Asked,
+  move-to-reads.Learnt,
 )
     (visit-at t)
     visit.Post
-    (visit-returns t)
     (visit-is-looked-at-requires t)
-    (visit-returns-2 t)
+    (visit-pass-requires t)
+    (visit-returns t)
+    (visit-tag-fault-at-requires t)
     (visit-fault-at-requires t)
     (visit-refused-requires t)
-    (visit-returns-3 t)
-    (visit-enter-found-requires t)
+    (visit-pass-requires-2 t)
+    (visit-returns-2 t)
+    (visit-enter-requires t)
     (visit-sub-visit-inside t)
     (visit-visit-inside-requires t)
+    (visit-is-worded-requires t)
+    (visit-refused-requires-2 t)
+    (visit-move-to-requires t)
+    (visit-same-length t)
+    (visit-returns-3 t)
+    (visit-same-length-2 t)
     (visit-returns-4 t))
     λ t. visit-inside-lts.spec (
       content-at-reads.Asked,
@@ -916,8 +1449,12 @@ pub +visit+visit-inside-spec : {M : Type 1} → statement M
       none-seen-reads.Learnt,
       close-reads.Asked,
       close-reads.Learnt,
+      move-to-reads.Asked,
+      move-to-reads.Learnt,
       item-at-reads.Asked,
       item-at-reads.Learnt,
+      blanks-end-reads.Asked,
+      blanks-end-reads.Learnt,
       child-at-reads.Asked,
       child-at-reads.Learnt,
       is-over-reads.Asked,
@@ -926,8 +1463,6 @@ pub +visit+visit-inside-spec : {M : Type 1} → statement M
       visit.Post,
       mark-reads.Asked,
       mark-reads.Learnt,
-      skip-reads.Asked,
-      skip-reads.Learnt,
     )
     (visit-inside-at t)
     visit-inside.Post
@@ -935,32 +1470,40 @@ pub +visit+visit-inside-spec : {M : Type 1} → statement M
     visit-inside-μ-loop
     (visit-inside-content-at-requires t)
     (visit-inside-enum-told t)
-    (visit-inside-enum-told-2 t)
     (visit-inside-none-seen-requires t)
     (visit-inside-close-requires t)
-    (visit-inside-enum-known-o t)
+    (visit-inside-enum-known-e t)
     (visit-inside-none-seen-requires-2 t)
+    (visit-inside-close-requires-2 t)
+    (visit-inside-enum-known-o t)
+    (visit-inside-move-to-requires t)
+    (visit-inside-none-seen-requires-3 t)
     (visit-inside-loop-holds t)
     (visit-inside-item-at-requires t)
     (visit-inside-enum-known-k t)
+    (visit-inside-blanks-end-requires t)
     (visit-inside-loop-less t)
     (visit-inside-loop-again t)
     (visit-inside-enum-known-k-2 t)
     (visit-inside-loop-less-2 t)
     (visit-inside-loop-again-2 t)
-    (visit-inside-enum-told-3 t)
+    (visit-inside-enum-told-2 t)
     (visit-inside-child-at-requires t)
     (visit-inside-is-over-requires t)
     (visit-inside-visit-requires t)
     (visit-inside-mark-requires t)
-    (visit-inside-skip-requires t)
     (visit-inside-loop-less-3 t)
     (visit-inside-loop-again-3 t)
-    (visit-inside-enum-told-4 t)
-    (visit-inside-close-requires-2 t)
+    (visit-inside-enum-known-e-2 t)
+    (visit-inside-close-requires-3 t)
+    (visit-inside-same-length t)
     (visit-inside-returns t)
-    (visit-inside-enum-told-5 t)
+    (visit-inside-enum-told-3 t)
+    (visit-inside-close-requires-4 t)
+    (visit-inside-same-length-2 t)
     (visit-inside-returns-2 t)
+    (visit-inside-close-requires-5 t)
     (visit-inside-returns-3 t)
     (visit-inside-returns-4 t)
+    (visit-inside-same-length-3 t)
     (visit-inside-returns-5 t)

@@ -2,14 +2,15 @@
 use borrow.Author.Needs.{needs}
 use Rattle.document.proofs.close.Statement.{statement}
 use Rattle.document.proofs.close.Tie as tie
-use Rattle.document.specs.Steps.{closed}
+use mathlib.Core.Path.{refl}
+use Rattle.document.specs.Steps.{closed, found}
 
 lacks-some-requires : tie.Need-lacks-some-requires
 lacks-some-requires c κs = search needs
 
 returns : tie.Need-returns
-unfolding closed
-returns c = rw (c .before .before .lacks-some .ensures)
+unfolding closed found
+returns c = (λ ms. rw (c .before .lacks-some .ensures), refl, refl)
 
 pub close-spec : {M : Type 1} → statement M
 close-spec = tie.close (tie.spec lacks-some-requires returns)

@@ -25,7 +25,7 @@ enum-told-2 : tie.Need-enum-told-2
 enum-told-2 c = search needs
 
 index-whole-requires : tie.Need-index-whole-requires
-index-whole-requires c κs = search needs
+index-whole-requires c κs = subst (Shaped (c .before .before .before .before .args .file .now)) (c .enum-told2 .given .1) (c .before .before .read-shape .ensures)
 
 returns : tie.Need-returns
 returns c = indexes-long (c .before .before .before .before .before .args .file .now) _ (subst (Shaped (c .before .before .before .before .before .args .file .now)) (c .before .enum-told .given .1) (c .before .before .before .read-shape .ensures)) (c .refuse .ensures)

@@ -2,64 +2,30 @@
 use borrow.Author.Needs.{needs}
 use Rattle.judging.proofs.bad_text.Statement.{statement}
 use Rattle.judging.proofs.bad_text.Tie as tie
-use mathlib.Core.Path.{refl, ap, _∙_}
-use mathlib.Core.Bool.{not}
+use mathlib.Core.Path.{refl, _∙_}
+use mathlib.Core.List.{[], _∷_}
+use mathlib.Core.Bool.{true, false}
 use Rattle.ascii.specs.Texts.{bytes, same}
+use Rattle.schema.specs.declared.Kind.the-variants.{Version, Expression, Channel}
 use Rattle.schema.specs.Steps.{nameOf}
 use Rattle.schema.proofs.Every.{told}
-use Rattle.element.specs.Element.{isBad}
-use Rattle.element.specs.Steps.{badText}
+use Rattle.element.specs.Steps.{worded}
 use Rattle.element_laws.proofs.Arms.{textless}
+use Rattle.element_laws.proofs.Wordings.{worded-text, wordless-text}
 
-enum-told : tie.Need-enum-told
-enum-told c = search needs
-
-has-version-requires : tie.Need-has-version-requires
-has-version-requires c κs = search needs
-
-enum-told-2 : tie.Need-enum-told-2
-enum-told-2 c = search needs
-
-channel-number-requires : tie.Need-channel-number-requires
-channel-number-requires c κs = search needs
-
-is-bad-requires : tie.Need-is-bad-requires
-is-bad-requires c κs = search needs
-
-enum-told-3 : tie.Need-enum-told-3
-enum-told-3 c = search needs
+is-misspelt-requires : tie.Need-is-misspelt-requires
+is-misspelt-requires c κs = search needs
 
 has-text-requires : tie.Need-has-text-requires
 has-text-requires c κs = search needs
 
 returns : tie.Need-returns
-unfolding badText nameOf bytes same
-returns c = rw (c .before .enum-told .given .1) (ap not (c .has-version .ensures))
+unfolding worded nameOf bytes same
+returns c = c .is-misspelt .ensures ∙ worded-text (c .before .before .before .args .file .now) (c .before .before .before .args .i) (c .before .before .before .args .kind) (told worded true (c .before .before .before .args .kind) (Version ∷ Expression ∷ Channel ∷ []) refl (c .before .match .keys1))
 
 returns-2 : tie.Need-returns-2
-unfolding badText nameOf bytes same
-returns-2 c = rw (c .before .before .enum-told2 .given .1) (c .is-bad .ensures ∙ ap isBad (c .before .channel-number .ensures))
-
-returns-3 : tie.Need-returns-3
-unfolding badText nameOf bytes same
-returns-3 c = rw (c .enum-told3 .given .1) refl
-
-returns-4 : tie.Need-returns-4
-unfolding badText nameOf bytes same
-returns-4 c = c .has-text .ensures ∙ told (λ k. badText k (c .before .before .before .args .file .now) (c .before .before .before .args .i)) _ (c .before .before .before .args .kind) textless refl (c .before .match .keys4)
+unfolding worded nameOf bytes same
+returns-2 c = c .has-text .ensures ∙ wordless-text (c .before .before .before .args .file .now) (c .before .before .before .args .i) (c .before .before .before .args .kind) (told worded false (c .before .before .before .args .kind) textless refl (c .before .match .keys2))
 
 pub bad-text-spec : {M : Type 1} → statement M
-bad-text-spec =
-    tie.close
-    (tie.spec
-    enum-told
-    has-version-requires
-    enum-told-2
-    channel-number-requires
-    is-bad-requires
-    enum-told-3
-    has-text-requires
-    returns
-    returns-2
-    returns-3
-    returns-4)
+bad-text-spec = tie.close (tie.spec is-misspelt-requires has-text-requires returns returns-2)

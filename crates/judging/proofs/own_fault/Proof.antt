@@ -2,53 +2,21 @@
 use borrow.Author.Needs.{needs}
 use Rattle.judging.proofs.own_fault.Statement.{statement}
 use Rattle.judging.proofs.own_fault.Tie as tie
-use Rattle.element.proofs.Verdicts.{is-unfit, is-lacking, is-bad-value, is-crossed, is-misworded, is-barred, is-faultless}
+use mathlib.Core.Path.{_∙_}
+use Rattle.element.specs.Steps.{ownFault}
 
 gather-requires : tie.Need-gather-requires
 gather-requires c κs = search needs
 
-returns : tie.Need-returns
-returns c = is-unfit (c .before .before .before .before .before .args .kind) (c .before .before .before .before .before .args .file .now) (c .before .before .before .before .before .args .i) (c .before .before .before .gather .result) (c .before .before .before .gather .ensures) (c .if1 .taken)
-
-lacks-requires : tie.Need-lacks-requires
-lacks-requires c κs = search needs
-
-returns-2 : tie.Need-returns-2
-returns-2 c = is-lacking (c .before .before .before .before .before .before .before .args .kind) (c .before .before .before .before .before .before .before .args .file .now) (c .before .before .before .before .before .before .before .args .i) (c .before .before .before .before .before .gather .result) (c .before .before .before .before .before .gather .ensures) _ (c .before .lacks .ensures) (c .before .before .if1 .left) (c .if2 .taken)
-
-returns-3 : tie.Need-returns-3
-returns-3 c = is-bad-value (c .before .before .before .before .before .before .before .before .args .kind) (c .before .before .before .before .before .before .before .before .args .file .now) (c .before .before .before .before .before .before .before .before .args .i) (c .before .before .before .before .before .before .gather .result) (c .before .before .before .before .before .before .gather .ensures) _ (c .before .before .lacks .ensures) (c .before .before .before .if1 .left) (c .before .if2 .left) (c .if3 .taken)
-
-bounds-crossed-requires : tie.Need-bounds-crossed-requires
-bounds-crossed-requires c κs = search needs
-
-returns-4 : tie.Need-returns-4
-returns-4 c = is-crossed (c .before .before .before .before .before .before .before .before .before .before .args .kind) (c .before .before .before .before .before .before .before .before .before .before .args .file .now) (c .before .before .before .before .before .before .before .before .before .before .args .i) (c .before .before .before .before .before .before .before .before .gather .result) (c .before .before .before .before .before .before .before .before .gather .ensures) _ (c .before .before .before .before .lacks .ensures) (c .before .before .before .before .before .if1 .left) (c .before .before .before .if2 .left) _ (c .before .bounds-crossed .ensures) (c .before .before .if3 .left) (c .if4 .taken)
-
 bad-text-requires : tie.Need-bad-text-requires
 bad-text-requires c κs = search needs
 
-returns-5 : tie.Need-returns-5
-returns-5 c = is-misworded (c .before .before .before .before .before .before .before .before .before .before .before .before .args .kind) (c .before .before .before .before .before .before .before .before .before .before .before .before .args .file .now) (c .before .before .before .before .before .before .before .before .before .before .before .before .args .i) (c .before .before .before .before .before .before .before .before .before .before .gather .result) (c .before .before .before .before .before .before .before .before .before .before .gather .ensures) _ (c .before .before .before .before .before .before .lacks .ensures) (c .before .before .before .before .before .before .before .if1 .left) (c .before .before .before .before .before .if2 .left) _ (c .before .before .before .bounds-crossed .ensures) (c .before .before .before .before .if3 .left) _ (c .before .bad-text .ensures) (c .before .before .if4 .left) (c .if5 .taken)
+verdict-of-requires : tie.Need-verdict-of-requires
+verdict-of-requires c κs = search needs
 
-returns-6 : tie.Need-returns-6
-returns-6 c = is-barred (c .before .before .before .before .before .before .before .before .before .before .before .before .before .args .kind) (c .before .before .before .before .before .before .before .before .before .before .before .before .before .args .file .now) (c .before .before .before .before .before .before .before .before .before .before .before .before .before .args .i) (c .before .before .before .before .before .before .before .before .before .before .before .gather .result) (c .before .before .before .before .before .before .before .before .before .before .before .gather .ensures) _ (c .before .before .before .before .before .before .before .lacks .ensures) (c .before .before .before .before .before .before .before .before .if1 .left) (c .before .before .before .before .before .before .if2 .left) _ (c .before .before .before .before .bounds-crossed .ensures) (c .before .before .before .before .before .if3 .left) _ (c .before .before .bad-text .ensures) (c .before .before .before .if4 .left) (c .before .if5 .left) (c .if6 .taken)
-
-returns-7 : tie.Need-returns-7
-returns-7 c = is-faultless (c .before .before .before .before .before .before .before .before .before .before .before .before .before .args .kind) (c .before .before .before .before .before .before .before .before .before .before .before .before .before .args .file .now) (c .before .before .before .before .before .before .before .before .before .before .before .before .before .args .i) (c .before .before .before .before .before .before .before .before .before .before .before .gather .result) (c .before .before .before .before .before .before .before .before .before .before .before .gather .ensures) _ (c .before .before .before .before .before .before .before .lacks .ensures) (c .before .before .before .before .before .before .before .before .if1 .left) (c .before .before .before .before .before .before .if2 .left) _ (c .before .before .before .before .bounds-crossed .ensures) (c .before .before .before .before .before .if3 .left) _ (c .before .before .bad-text .ensures) (c .before .before .before .if4 .left) (c .before .if5 .left) (c .if6 .left)
+returns : tie.Need-returns
+unfolding ownFault
+returns c = c .verdict-of .ensures ∙ rw (c .before .bad-text .ensures, c .before .before .gather .ensures)
 
 pub own-fault-spec : {M : Type 1} → statement M
-own-fault-spec =
-    tie.close
-    (tie.spec
-    gather-requires
-    returns
-    lacks-requires
-    returns-2
-    returns-3
-    bounds-crossed-requires
-    returns-4
-    bad-text-requires
-    returns-5
-    returns-6
-    returns-7)
+own-fault-spec = tie.close (tie.spec gather-requires bad-text-requires verdict-of-requires returns)

@@ -1,0 +1,28 @@
+-- `document::tag_fault_at` meets its contract.
+use borrow.Author.Needs.{needs}
+use Rattle.document.proofs.tag_fault_at.Statement.{statement}
+use Rattle.document.proofs.tag_fault_at.Tie as tie
+use mathlib.Core.Path.{sym, _∙_}
+use Rattle.document.specs.Steps.{tagFaultAt}
+
+is-barred-requires : tie.Need-is-barred-requires
+is-barred-requires c κs = search needs
+
+returns : tie.Need-returns
+unfolding tagFaultAt
+returns c = rw (sym (c .before .is-barred .ensures) ∙ c .if1 .taken)
+
+returns-2 : tie.Need-returns-2
+unfolding tagFaultAt
+returns-2 c = rw (sym (c .before .before .is-barred .ensures) ∙ c .before .if1 .left, c .if2 .taken)
+
+tag-fault-requires : tie.Need-tag-fault-requires
+tag-fault-requires c κs = search needs
+
+returns-3 : tie.Need-returns-3
+unfolding tagFaultAt
+returns-3 c = c .tag-fault .ensures ∙ rw (sym (c .before .before .before .is-barred .ensures) ∙ c .before .before .if1 .left, c .before .if2 .left)
+
+pub tag-fault-at-spec : {M : Type 1} → statement M
+tag-fault-at-spec =
+    tie.close (tie.spec is-barred-requires returns returns-2 tag-fault-requires returns-3)
