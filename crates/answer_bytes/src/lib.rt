@@ -3,13 +3,15 @@
 // Promises: `put_answer` writes the 32 bytes of an answer at the front of a buffer, or leaves one that is shorter as it was.
 // May not touch: plan words, the rules.
 ghost use mathlib.Core.Path.{_≡_};
-ghost use mathlib.Core.List.{_++_};
-ghost use Prim.Native.Nat.{_+_, _≤_};
+ghost use mathlib.Core.List.{List, _++_};
+ghost use mathlib.Core.Bool.{Bool};
+ghost use Prim.Native.Nat.{ℕ, _+_, _≤_};
 ghost use lib.ListN.{length, take, drop};
+ghost use Rattle.rules.specs.declared.Firing.{Firing};
 ghost use Rattle.wire.specs.Wire.{bytesOf, answerByte, loggingByte, endTime, withAnswer};
 use rules::Answer;
+use rules::Counts;
 use rules::Logging;
-use rules::Outcome;
 
 fn answer_byte(a: Answer) -> u8
     ensures { λ r. ⌜ r ≡ answerByte a ⌝ }
@@ -62,17 +64,14 @@ fn put_number(out: &mut [u8], at: usize, x: u64, size: usize)
     }
 }
 
-// Writes an answer's bytes at the front of `out`, where it has room for them.
-pub fn put_answer(out: &mut [u8], o: Outcome)
-    ensures { λ _. ⌜ now (out .exit) ≡ withAnswer o (now (out .entry)) ⌝ }
+// Writes an answer's bytes at the front of `out`, where it has room for them. Of the engine they tell the logging state alone: what else it holds
+// may be anything.
+pub fn put_answer(out: &mut [u8], answer: Answer, logging: Logging, counts: Counts)
+    ensures { λ _. ⌜ ((fired : List Firing) → (truth : List Bool) → (started : Bool) → (last : ℕ) → now (out .exit) ≡ withAnswer (record { answer = answer; engine = record { logging = logging; fired = fired; truth = truth; started = started; last = last }; counts = counts }) (now (out .entry))) ⌝ }
 {
     if out.len() < 32 {
         return;
     }
-    let answer = o.answer;
-    let engine = o.engine;
-    let logging = engine.logging;
-    let counts = o.counts;
     out[0] = answer_byte(answer);
     out[1] = logging_byte(logging);
     put_number(&mut out[..], 2, 0, 6);

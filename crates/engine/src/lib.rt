@@ -24,7 +24,7 @@ pub fn take_frame(words: &[u32], en: Engine, counts: Counts, f: Frame) -> Outcom
     let Loaded::Taken(lay) = loader::load(words) else {
         return admission::refuse(NO_PLAN, en, counts);
     };
-    stepping::step_frame(words, lay, en, counts, f)
+    whole_steps::step_frame(words, lay, en, counts, f)
 }
 
 // One tick, at u.
@@ -34,5 +34,5 @@ pub fn take_tick(words: &[u32], en: Engine, counts: Counts, u: u64) -> Outcome
     let Loaded::Taken(lay) = loader::load(words) else {
         return admission::refuse(NO_PLAN, en, counts);
     };
-    stepping::step_tick(words, lay, en, counts, u)
+    whole_steps::step_tick(words, lay, en, counts, u)
 }

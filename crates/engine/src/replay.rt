@@ -1,28 +1,56 @@
 // A list of events from fresh, as bytes in and bytes out: 32 for an event, 32 for an answer. The plan is judged once for the whole list.
 ghost use mathlib.Core.Path.{_≡_};
 ghost use Prim.Native.Nat.{_≤_};
-ghost use lib.ListN.{length};
+ghost use lib.ListN.{length, replicate};
+ghost use Rattle.rules.specs.Calls.{fresh};
 ghost use Rattle.wire.specs.Wire.{eventAt};
+ghost use Rattle.stepping.specs.Steps.{engineOf, outcomeOf};
 ghost use Rattle.engine.specs.Replay.{fewer, howMany, Replays};
 ghost use Rattle.engine.specs.Steps.{stepLoaded};
 use loader::Loaded;
+use rules::Answer;
 use rules::Counts;
-use rules::Engine;
-use rules::Outcome;
+use rules::Logging;
+use stepping::Ran;
+use stepping::Running;
+
+// A fresh engine, beside times that are 0.
+fn fresh_running() -> Running
+    ensures { λ r. ⌜ engineOf r (replicate 32 0) ≡ fresh ⌝ }
+{
+    Running {
+        logging: Logging::Off,
+        ever: [false; 32],
+        truth: [false; 16],
+        started: false,
+        last: 0,
+    }
+}
 
 // One event, for what the loader answered.
-fn step_loaded(words: &[u32], loaded: Loaded, en: Engine, k: Counts, event: &[u8]) -> Outcome
+fn step_loaded(
+    words: &[u32],
+    loaded: Loaded,
+    s: Running,
+    k: Counts,
+    event: &[u8],
+    times: &mut [u64; 32],
+) -> Ran
     requires { ⌜ 32 ≤ length (now event) ⌝ }
-    ensures { λ r. ⌜ r ≡ stepLoaded (now (words .entry)) loaded en k (eventAt (now (event .entry))) ⌝ }
+    ensures { λ r. ⌜ outcomeOf r (now (times .exit)) ≡ stepLoaded (now (words .entry)) loaded (engineOf s (now (times .entry))) k (eventAt (now (event .entry))) ⌝ }
 {
     let Loaded::Taken(lay) = loaded else {
-        return admission::refuse(super::NO_PLAN, en, k);
+        return Ran {
+            answer: Answer::Refused(super::NO_PLAN),
+            state: s,
+            counts: k,
+        };
     };
     let f = wire::read_frame(event);
     if event[0] == 0 {
-        return stepping::step_tick(words, lay, en, k, f.time);
+        return stepping::run_tick(words, lay, s, k, f.time, times);
     }
-    stepping::step_frame(words, lay, en, k, f)
+    stepping::run_frame(words, lay, s, k, f, times)
 }
 
 fn fewer_of(a: usize, b: usize) -> usize
@@ -37,16 +65,19 @@ pub fn replay(words: &[u32], events: &[u8], counts: Counts, out: &mut [u8]) -> u
 {
     let n = fewer_of(events.len() / 32, out.len() / 32);
     let loaded = loader::load(words);
-    let mut en = fresh::fresh_engine();
+    let mut s = fresh_running();
+    let mut times = [0; 32];
     let mut k = counts;
     let mut at = 0;
     let mut i = 0;
     while i < n {
-        let o = step_loaded(words, loaded, en, k, &events[at..]);
-        answer_bytes::put_answer(&mut out[at..], o);
-        let engine = o.engine;
-        let after = o.counts;
-        en = engine;
+        let r = step_loaded(words, loaded, s, k, &events[at..], &mut times);
+        let answer = r.answer;
+        let state = r.state;
+        let logging = state.logging;
+        let after = r.counts;
+        answer_bytes::put_answer(&mut out[at..], answer, logging, after);
+        s = state;
         k = after;
         at += 32;
         i += 1;

@@ -1,3 +1,4 @@
--- The triggers: ties to the rules, turns of the loop.
+-- The triggers: ties to the rules, turns of the loops.
+pub mod Fills
 pub mod Ties
 pub mod Loops

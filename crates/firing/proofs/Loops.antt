@@ -1,39 +1,114 @@
--- The turns of the loop over triggers.
+-- The turns of the loops over triggers.
 use Prim.Native.Nat.{ℕ, _+_, _-_, _≤_, _<_}
-use mathlib.Core.Path.{_≡_, refl}
+use mathlib.Core.Path.{_≡_, refl, sym, ap, _∙_}
 use mathlib.Core.List.{List, []}
-use mathlib.Core.Bool.{Bool, true, false, cond}
-use lib.ListN.{getD, set, drop}
+use mathlib.Core.Bool.{Bool, true, false, cond, _||_}
+use lib.ListN.{length, getD, set, drop}
 use lib.Dec.{leb}
+use native.Mathlib.Omega.{arith}
 use native.Mathlib.Nat.{sub-zero}
 use Rattle.records.specs.Readers.{triggerSize, triggerAt}
 use Rattle.loader.specs.Scan.{recordsOf}
 use Rattle.loader.proofs.Laws.{records-end}
 use Rattle.rows.specs.Rows.{rowsOf}
 use Rattle.rows.proofs.Laws.{turn}
+use Rattle.rules.specs.declared.Firing.{Firing}
 use Rattle.rules.specs.Rules.{Event}
-use Rattle.firing.specs.Firings.{never, turnOf, fireOne, fireAll}
+use Rattle.firing.specs.Firings.{never, firingsOf, turnOf, fireOne, fireAll, everAfter, timesAfter}
 use Rattle.firing.specs.declared.Fired.{Fired}
 use Rattle.firing.specs.declared.Turn.{Turn}
+use Rattle.firing.proofs.Fills.{filled, fill-read, fill-more, fill-all, length-zip, zip-at}
 
 few-rows : (words : List ℕ) (k : ℕ) (b : Bool) → recordsOf triggerSize triggerAt (cond b k 0) words ≡ cond b (recordsOf triggerSize triggerAt k words) []
 unfolding recordsOf
 few-rows words k true = refl
 few-rows words k false = refl
 
-module _ (words : List ℕ) (k : ℕ) (first : Bool) (e : Event) where
-  pub fire-start : (n : ℕ) (s : Fired) → n ≡ cond (leb k 32) k 0
-      → fireAll (recordsOf triggerSize triggerAt (n - 0) (drop 0 words)) first e 0 s ≡ fireAll (rowsOf triggerSize triggerAt 32 k words) first e 0 s
+pub firing-at : (ever : List Bool) (times : List ℕ) (i : ℕ) → i < length ever → i < length times → getD (firingsOf ever times) i never ≡ record { ever = getD ever i false; at = getD times i 0 }
+unfolding firingsOf
+firing-at ever times i h k = zip-at (λ b t. record { ever = b; at = t }) ever times i false 0 never h k
+
+module _ (words : List ℕ) (k : ℕ) (first : Bool) (e : Event) (ls : List Firing) where
+  pub fire-start : (n m : ℕ) (s : Fired) → n ≡ cond (leb k m) k 0 → m ≡ 32
+      → fireAll (recordsOf triggerSize triggerAt (n - 0) (drop 0 words)) first e ls 0 s ≡ fireAll (rowsOf triggerSize triggerAt 32 k words) first e ls 0 s
   unfolding rowsOf
-  fire-start n s q = rw (sub-zero n, q, few-rows words k (leb k 32))
+  fire-start n m s q z = rw (sub-zero n, q, z, few-rows words k (leb k 32))
 
   pub fire-turn : (i at : ℕ) (s : Fired) → i < k → (rest : List ℕ) → rest ≡ drop at words → (n : ℕ) → n ≡ triggerSize rest
-      → (r : Turn) → r ≡ turnOf (triggerAt rest) first e (getD (s .last) i never)
-      → fireAll (recordsOf triggerSize triggerAt (k - (i + 1)) (drop (at + n) words)) first e (i + 1) (record { last = set (s .last) i (r .last); states = set (s .states) i (r .on) })
-      ≡ fireAll (recordsOf triggerSize triggerAt (k - i) (drop at words)) first e i s
+      → (l : Firing) → getD ls i never ≡ l → (r : Turn) → r ≡ turnOf (triggerAt rest) first e l
+      → fireAll (recordsOf triggerSize triggerAt (k - (i + 1)) (drop (at + n) words)) first e ls (i + 1) (record { fires = set (s .fires) i (r .fires); states = set (s .states) i (r .on) })
+      ≡ fireAll (recordsOf triggerSize triggerAt (k - i) (drop at words)) first e ls i s
   unfolding fireAll fireOne
-  fire-turn i at s h rest q n z r e-r = rw (turn triggerSize triggerAt words k i at rest n h q z, e-r)
+  fire-turn i at s h rest q n z l e-l r e-r =
+      let e-t : r ≡ turnOf (triggerAt rest) first e (getD ls i never) = e-r ∙ ap (turnOf (triggerAt rest) first e) (sym e-l) in
+      rw (turn triggerSize triggerAt words k i at rest n h q z, e-t)
 
-  pub fire-end : (i at : ℕ) (s : Fired) → k ≤ i → s ≡ fireAll (recordsOf triggerSize triggerAt (k - i) (drop at words)) first e i s
+  pub fire-end : (i at : ℕ) (s : Fired) → k ≤ i → s ≡ fireAll (recordsOf triggerSize triggerAt (k - i) (drop at words)) first e ls i s
   unfolding fireAll
   fire-end i at s h = rw (records-end triggerSize triggerAt words k i at h)
+
+-- ---- what is kept of the firings
+module _ (u : ℕ) (x : Bool) (t : ℕ) where
+  abbrev after : Bool → Firing
+  after b = cond b (record { ever = true; at = u }) (record { ever = x; at = t })
+
+  after-ever : (b : Bool) → after b .ever ≡ b || x
+  after-ever true = refl
+  after-ever false = refl
+
+  after-time : (b : Bool) → after b .at ≡ cond b u t
+  after-time true = refl
+  after-time false = refl
+
+-- the first i are kept
+pub record Keeps (fires ever : List Bool) (u : ℕ) (times : List ℕ) (i : ℕ) (kept : List Bool) (set : List ℕ) : Type 0 where
+  pub upto : i ≤ 32
+  pub long-fires : length fires ≡ 32
+  pub long-ever : length ever ≡ 32
+  pub long-times : length times ≡ 32
+  pub ever-is : kept ≡ filled (everAfter fires ever) ever i
+  pub times-are : set ≡ filled (timesAfter fires u times) times i
+
+module _ (fires ever : List Bool) (u : ℕ) (times : List ℕ) where
+  pub keeps-none : length fires ≡ 32 → length ever ≡ 32 → length times ≡ 32 → Keeps fires ever u times 0 ever times
+  keeps-none f e t = record { upto = omega arith; long-fires = f; long-ever = e; long-times = t; ever-is = refl; times-are = refl }
+
+  module _ (i : ℕ) (kept : List Bool) (now : List ℕ) (k : Keeps fires ever u times i kept now) where
+    module _ (h : i < 32) (r : Firing) (q : r ≡ after u (getD kept i false) (getD now i 0) (getD fires i false)) where
+      ever-next : r .ever ≡ getD (everAfter fires ever) i false
+      unfolding everAfter
+      ever-next =
+          ap (λ (x : Firing). x .ever) q
+          ∙ after-ever u (getD kept i false) (getD now i 0) (getD fires i false)
+          ∙ rw (k .ever-is, fill-read false (everAfter fires ever) ever (length-zip _ fires ever (k .long-fires ∙ sym (k .long-ever))) i (omega (arith, k .long-ever)))
+          (sym (zip-at (λ b x. b || x) fires ever i false false false (omega (arith, k .long-fires)) (omega (arith, k .long-ever))))
+
+      time-next : r .at ≡ getD (timesAfter fires u times) i 0
+      unfolding timesAfter
+      time-next =
+          ap (λ (x : Firing). x .at) q
+          ∙ after-time u (getD kept i false) (getD now i 0) (getD fires i false)
+          ∙ rw (k .times-are, fill-read 0 (timesAfter fires u times) times (length-zip _ fires times (k .long-fires ∙ sym (k .long-times))) i (omega (arith, k .long-times)))
+          (sym (zip-at (λ b t. cond b u t) fires times i false 0 0 (omega (arith, k .long-fires)) (omega (arith, k .long-times))))
+
+      pub keeps-more : Keeps fires ever u times (i + 1) (set kept i (r .ever)) (set now i (r .at))
+      unfolding everAfter timesAfter
+      keeps-more = record {
+        upto = omega arith;
+        long-fires = k .long-fires;
+        long-ever = k .long-ever;
+        long-times = k .long-times;
+        ever-is =
+            rw (k .ever-is)
+            (fill-more false (everAfter fires ever) ever (length-zip _ fires ever (k .long-fires ∙ sym (k .long-ever))) i (omega (arith, k .long-ever)) (r .ever) ever-next);
+        times-are =
+            rw (k .times-are)
+            (fill-more 0 (timesAfter fires u times) times (length-zip _ fires times (k .long-fires ∙ sym (k .long-times))) i (omega (arith, k .long-times)) (r .at) time-next);
+      }
+
+    pub keeps-all : 32 ≤ i → (kept ≡ everAfter fires ever) × (now ≡ timesAfter fires u times)
+    unfolding everAfter timesAfter
+    keeps-all h = (
+      k .ever-is ∙ fill-all false (everAfter fires ever) ever (length-zip _ fires ever (k .long-fires ∙ sym (k .long-ever))) i (omega (arith, k .long-ever)),
+      k .times-are ∙ fill-all 0 (timesAfter fires u times) times (length-zip _ fires times (k .long-fires ∙ sym (k .long-times))) i (omega (arith, k .long-times)),
+    )

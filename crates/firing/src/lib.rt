@@ -1,27 +1,28 @@
-// The triggers: which of those that stand in a row of words fire at an event, and which are true then.
+// The triggers: which of those that stand in a row of words fire at an event, which are true then, and what their firing leaves.
 //
-// Promises: `fire_all` is step 5 of the rules of one event, for the triggers that any words are read as.
+// Promises: `fire_all` and `keep_firings` are step 5 of the rules of one event, for the triggers that any words are read as.
 // May not touch: the rest of a plan, the logging state.
 ghost use mathlib.Core.Path.{_≡_};
 ghost use mathlib.Core.Bool.{cond};
 ghost use Prim.Native.Nat.{_≤_};
 ghost use lib.Dec.{leb};
+ghost use lib.ListN.{length};
 ghost use Rattle.records.specs.Readers.{triggerSize, triggerAt};
 ghost use Rattle.rows.specs.Rows.{rowsOf};
 ghost use Rattle.rules.specs.Steps.{eventOf};
-ghost use Rattle.firing.specs.Firings.{turnOf, fireAll};
+ghost use Rattle.firing.specs.Firings.{firingsOf, turnOf, fireAll, noneFired, everAfter, timesAfter};
 use rules::Firing;
 use rules::Frame;
 
-// The triggers' last firings, and which triggers are true now.
+// Which triggers fire at an event, and which are true then.
 pub struct Fired {
-    pub last: [Firing; 32],
+    pub fires: [bool; 32],
     pub states: [bool; 32],
 }
 
-// What a trigger's firing leaves: its last firing, and whether it is true now.
+// Whether a trigger fires, and whether it is true.
 struct Turn {
-    last: Firing,
+    fires: bool,
     on: bool,
 }
 
@@ -33,43 +34,82 @@ fn turn_of(rec: &[u32], first: bool, ticks: bool, f: Frame, l: Firing) -> Turn
     let timeout = t.timeout;
     let fires = matching::trigger_fires(cause, first, ticks, f);
     let lasts = lasting::trigger_lasts(timeout, l, f.time);
-    let last = lasting::firing_after(fires, l, f.time);
     Turn {
-        last,
+        fires,
         on: fires | lasts,
     }
 }
 
 // How many triggers to fire. A number, since a second way out of `fire_all` would have its result copied once more.
-fn at_most_32(count: u32) -> usize
-    ensures { λ r. ⌜ (r ≡ cond (leb count 32) count 0) × (r ≤ 32) ⌝ }
+fn at_most(count: u32, times: &[u64]) -> usize
+    ensures { λ r. ⌜ (r ≡ cond (leb count (length (now (times .entry)))) count 0) × (r ≤ length (now (times .entry))) ⌝ }
 {
-    if count <= 32 { count as usize } else { 0 }
+    let n = count as usize;
+    if n <= times.len() { n } else { 0 }
 }
 
-// All triggers, in order; none where there are more than 32.
+// All triggers, in order; none where there are more than 32. It writes no time: an event whose code is at fault leaves them as they were.
+// That the lists are 32 long is for callers, whom a reference does not tell it.
 pub fn fire_all(
     triggers: &[u32],
     count: u32,
     first: bool,
     ticks: bool,
     f: Frame,
-    start: Fired,
+    ever: [bool; 32],
+    times: &[u64; 32],
 ) -> Fired
-    ensures { λ r. ⌜ r ≡ fireAll (rowsOf triggerSize triggerAt 32 count (now (triggers .entry))) first (eventOf ticks f) 0 start ⌝ }
+    ensures { λ r. ⌜ (r ≡ fireAll (rowsOf triggerSize triggerAt 32 count (now (triggers .entry))) first (eventOf ticks f) (firingsOf ever (now (times .entry))) 0 noneFired) × (length ever ≡ 32) × (length (now (times .entry)) ≡ 32) ⌝ }
 {
-    let mut s = start;
-    let n = at_most_32(count);
+    let mut s = Fired {
+        fires: [false; 32],
+        states: [false; 32],
+    };
+    let n = at_most(count, times);
     let mut at = 0;
     let mut i = 0;
     while i < n {
         let rest = rows::tail(triggers, at);
-        let turn = turn_of(rest, first, ticks, f, s.last[i]);
-        let last = turn.last;
-        s.last[i] = last;
+        let l = Firing {
+            ever: ever[i],
+            at: times[i],
+        };
+        let turn = turn_of(rest, first, ticks, f, l);
+        s.fires[i] = turn.fires;
         s.states[i] = turn.on;
         at += record_sizes::trigger_size(rest);
         i += 1;
     }
     s
+}
+
+fn length_of(times: &[u64]) -> usize
+    ensures { λ r. ⌜ r ≡ length (now (times .entry)) ⌝ }
+{
+    times.len()
+}
+
+// The last firings, once the triggers of `fires` fired at u: the times are set where they lie, and which triggers ever fired is given back.
+pub fn keep_firings(
+    fires: [bool; 32],
+    u: u64,
+    ever: [bool; 32],
+    times: &mut [u64; 32],
+) -> [bool; 32]
+    ensures { λ r. ⌜ (r ≡ everAfter fires ever) × (now (times .exit) ≡ timesAfter fires u (now (times .entry))) ⌝ }
+{
+    let n = length_of(times);
+    let mut kept = ever;
+    let mut i = 0;
+    while i < n {
+        let l = Firing {
+            ever: kept[i],
+            at: times[i],
+        };
+        let after = lasting::firing_after(fires[i], l, u);
+        kept[i] = after.ever;
+        times[i] = after.at;
+        i += 1;
+    }
+    kept
 }

@@ -16,20 +16,23 @@ use Rattle.rows.specs.Rows.{rowsOf}
 use Rattle.rows.proofs.Laws.{few-rows}
 use Rattle.rules.specs.declared.Frame.{Frame}
 use Rattle.rules.specs.declared.Logging.{Logging}
+use Rattle.rules.specs.declared.Firing.{Firing}
 use Rattle.rules.specs.declared.Engine.{Engine}
 use Rattle.rules.specs.declared.Counts.{Counts}
 use Rattle.rules.specs.declared.Answer.{Answer}
 use Rattle.rules.specs.declared.Answer.the-variants as answers
-use Rattle.rules.specs.Rules.{Config, Event, tick, answering, isHalted, endedBy, passes, states, firings, evaluated, actions, acted, triggered, answered, process, Result, gives, faults}
+use Rattle.rules.specs.Rules.{Config, Event, tick, answering, isHalted, endedBy, recordedOrIdle, passes, states, firings, evaluated, actions, acted, triggered, answered, process, Result, gives, faults}
 use Rattle.rules.specs.Calls.{statementOf, configOf, late, outOfRange, full, frameRefusal, refusal, counted, refused, closed, step}
 use Rattle.rules.specs.Steps.{eventOf}
-use Rattle.firing.specs.Firings.{fireAll}
+use Rattle.firing.specs.Firings.{firingsOf, fireAll, noneFired, everAfter, timesAfter}
 use Rattle.firing.specs.declared.Fired.{Fired}
-use Rattle.firing.proofs.Ties.{time-is, all-fired}
+use Rattle.firing.proofs.Fills.{length-zip}
+use Rattle.firing.proofs.Ties.{time-is, hits, all-fired, all-kept}
 use Rattle.acting.specs.Acts.{evaluateAll, actRisen, inTime}
 use Rattle.acting.specs.declared.Evaluated.{Evaluated}
 use Rattle.acting.proofs.Ties.{Evaluates, all-evaluated, evaluated-length, all-acted, acts-only, evaluated-padded}
-use Rattle.stepping.specs.Steps.{triggersIn, statementsIn, tickedOr, settledAt, steppedOf}
+use Rattle.stepping.specs.Steps.{triggersIn, statementsIn, engineOf, Reached, reachedBy, tickedOr, answeredAt, settledAt, reached}
+use Rattle.stepping.specs.declared.Running.{Running}
 use Rattle.stepping.specs.declared.Stepped.{Stepped}
 
 pub answer-is : (b : Bool) (f : Frame) (a : Answer) → answering (eventOf b f) a ≡ tickedOr b a
@@ -46,9 +49,9 @@ module _ (ws : List ℕ) where
   pub few-triggers : length (triggersIn ws) ≤ 32
   few-triggers = few-rows triggerSize triggerAt 32 (getD ws 3 0) (drop 6 ws)
 
-  pub fires-from : (first : Bool) (e : Event) (s : Fired) (n : ℕ) (rest : List ℕ) → n ≡ getD ws 3 0 → rest ≡ drop 6 ws
-      → fireAll (rowsOf triggerSize triggerAt 32 n rest) first e 0 s ≡ fireAll (triggersIn ws) first e 0 s
-  fires-from first e s n rest b c = rw (b, c)
+  pub fires-from : (first : Bool) (e : Event) (ls : List Firing) (n : ℕ) (rest : List ℕ) → n ≡ getD ws 3 0 → rest ≡ drop 6 ws
+      → fireAll (rowsOf triggerSize triggerAt 32 n rest) first e ls 0 noneFired ≡ fireAll (triggersIn ws) first e ls 0 noneFired
+  fires-from first e ls n rest b c = rw (b, c)
 
   module _ (lay : Layout) where
     pub few-statements : length (statementsIn ws lay) ≤ 16
@@ -67,72 +70,102 @@ timely : (u : ℕ) (acted l : Logging) → u ≤ 10000000000000000 → inTime u 
 timely u acted l h = rw (le-leb u 10000000000000000 h)
 
 -- ---- steps 5 to 7
-module _ (p : Plan) (en : Engine) (l : Logging) (b : Bool) (f : Frame) (few-triggers : length (p .triggers) ≤ 32) (few-statements : length (p .statements) ≤ 16)
-    (many-truths : length (en .truth) ≡ 16)
-    (fired : Fired) (fires : fired ≡ fireAll (p .triggers) (not (en .started)) (eventOf b f) 0 (record { last = en .fired; states = replicate 32 false })) (many-fired : length (en .fired) ≡ 32) where
-  fired-is : fired ≡ record { last = firings (p .triggers) (not (en .started)) (eventOf b f) (en .fired); states = states (p .triggers) (not (en .started)) (eventOf b f) (en .fired) ++ replicate (32 - length (p .triggers)) false }
+module _ (p : Plan) (s : Running) (times : List ℕ) (l : Logging) (b : Bool) (f : Frame) (few-triggers : length (p .triggers) ≤ 32) (few-statements : length (p .statements) ≤ 16)
+    (many-truths : length (s .truth) ≡ 16) (many-ever : length (s .ever) ≡ 32) (many-times : length times ≡ 32)
+    (fired : Fired) (fires : fired ≡ fireAll (p .triggers) (not (s .started)) (eventOf b f) (firingsOf (s .ever) times) 0 noneFired) where
+  abbrev en : Engine
+  en = engineOf s times
+
+  abbrev now-true : List Bool
+  now-true = states (p .triggers) (not (s .started)) (eventOf b f) (firingsOf (s .ever) times)
+
+  abbrev fires-then : List Bool
+  fires-then = hits (not (s .started)) (eventOf b f) (p .triggers) ++ replicate (32 - length (p .triggers)) false
+
+  many-fired : length (firingsOf (s .ever) times) ≡ 32
+  unfolding firingsOf
+  many-fired = length-zip _ (s .ever) times (many-ever ∙ sym many-times) ∙ many-times
+
+  fired-is : fired ≡ record { fires = fires-then; states = now-true ++ replicate (32 - length (p .triggers)) false }
   fired-is =
       fires
-      ∙ all-fired (not (en .started)) (eventOf b f) (p .triggers) [] (en .fired) [] (replicate 32 false) 0 refl refl (omega arith) (omega (arith, length-replicate 32 false))
+      ∙ all-fired (not (s .started)) (eventOf b f) (p .triggers) [] (firingsOf (s .ever) times) [] (replicate 32 false) [] (replicate 32 false) 0 refl refl refl
+      (omega (arith, many-fired)) (omega (arith, length-replicate 32 false)) (omega (arith, length-replicate 32 false))
       ∙ rw (drop-falses (length (p .triggers)) 32) refl
 
-  module _ (ev : Evaluated) (evaluates : ev ≡ evaluateAll (map statementOf (p .statements)) (fired .states) 0 (record { ok = true; truth = en .truth })) where
-    ev-is : Evaluates (evaluated (map statementOf (p .statements)) (states (p .triggers) (not (en .started)) (eventOf b f) (en .fired))) [] (en .truth) ev
+  module _ (ev : Evaluated) (evaluates : ev ≡ evaluateAll (map statementOf (p .statements)) (fired .states) 0 (record { ok = true; truth = s .truth })) where
+    ev-is : Evaluates (evaluated (map statementOf (p .statements)) now-true) [] (s .truth) ev
     ev-is =
-        rw (← evaluated-padded (p .statements) (states (p .triggers) (not (en .started)) (eventOf b f) (en .fired)) (32 - length (p .triggers)))
-        (subst (λ (x : Evaluated). Evaluates (evaluated (map statementOf (p .statements)) (states (p .triggers) (not (en .started)) (eventOf b f) (en .fired) ++ replicate (32 - length (p .triggers)) false)) [] (en .truth) x)
-        (sym (evaluates ∙ ap (λ (x : Fired). evaluateAll (map statementOf (p .statements)) (x .states) 0 (record { ok = true; truth = en .truth })) fired-is))
-        (all-evaluated (map statementOf (p .statements)) (states (p .triggers) (not (en .started)) (eventOf b f) (en .fired) ++ replicate (32 - length (p .triggers)) false) [] (en .truth) 0 refl
+        rw (← evaluated-padded (p .statements) now-true (32 - length (p .triggers)))
+        (subst (λ (x : Evaluated). Evaluates (evaluated (map statementOf (p .statements)) (now-true ++ replicate (32 - length (p .triggers)) false)) [] (s .truth) x)
+        (sym (evaluates ∙ ap (λ (x : Fired). evaluateAll (map statementOf (p .statements)) (x .states) 0 (record { ok = true; truth = s .truth })) fired-is))
+        (all-evaluated (map statementOf (p .statements)) (now-true ++ replicate (32 - length (p .triggers)) false) [] (s .truth) 0 refl
         (omega (arith, length-map (p .statements) statementOf))))
 
-    of-fault : (o : Option (List Bool)) → Evaluates o [] (en .truth) ev → ev .ok ≡ false → record { answer = answers.Refused 25; engine = en } ≡ steppedOf en (acted (configOf p) en l (eventOf b f) o)
+    of-fault : (o : Option (List Bool)) → Evaluates o [] (s .truth) ev → ev .ok ≡ false → record { answer = answers.Refused 25; engine = en } ≡ reached en (acted (configOf p) en l (eventOf b f) o)
     of-fault none h n = refl
     of-fault (some now) h n = absurd (let z : _≡_ {A = ℕ} 0 1 = cc in omega arith)
 
-    pub trigger-faults : not (ev .ok) ≡ true → record { answer = answers.Refused 25; engine = en } ≡ steppedOf en (triggered (configOf p) en l (eventOf b f))
+    pub trigger-faults : not (ev .ok) ≡ true → record { answer = answers.Refused 25; engine = en } ≡ reached en (triggered (configOf p) en l (eventOf b f))
     unfolding triggered
-    trigger-faults n = of-fault (evaluated (map statementOf (p .statements)) (states (p .triggers) (not (en .started)) (eventOf b f) (en .fired))) ev-is (not-true (ev .ok) n)
+    trigger-faults n = of-fault (evaluated (map statementOf (p .statements)) now-true) ev-is (not-true (ev .ok) n)
 
-    module _ (acts : Logging) (early : f .time ≤ 10000000000000000) (e0 : acts ≡ inTime (f .time) (actRisen (map statementOf (p .statements)) (f .time) (en .truth) (ev .truth) 0 l) l) where
-      acts-is : (now : List Bool) → ev ≡ record { ok = true; truth = now ++ drop (length now) (en .truth) } → length now ≡ length (p .statements)
-          → acts ≡ actions (map statementOf (p .statements)) (f .time) (zipWith (λ v was. v && not was) now (en .truth)) l
+    module _ (acts : Logging) (early : f .time ≤ 10000000000000000) (e0 : acts ≡ inTime (f .time) (actRisen (map statementOf (p .statements)) (f .time) (s .truth) (ev .truth) 0 l) l)
+        (kept : List Bool) (after : List ℕ) (keeps : (kept ≡ everAfter (fired .fires) (s .ever)) × (after ≡ timesAfter (fired .fires) (f .time) times)) where
+      acts-is : (now : List Bool) → ev ≡ record { ok = true; truth = now ++ drop (length now) (s .truth) } → length now ≡ length (p .statements)
+          → acts ≡ actions (map statementOf (p .statements)) (f .time) (zipWith (λ v was. v && not was) now (s .truth)) l
       acts-is now h n =
           e0
           ∙ timely (f .time) _ l early
-          ∙ ap (λ (x : Evaluated). actRisen (map statementOf (p .statements)) (f .time) (en .truth) (x .truth) 0 l) h
-          ∙ all-acted (map statementOf (p .statements)) (f .time) (en .truth) (now ++ drop (length now) (en .truth)) 0 l
+          ∙ ap (λ (x : Evaluated). actRisen (map statementOf (p .statements)) (f .time) (s .truth) (x .truth) 0 l) h
+          ∙ all-acted (map statementOf (p .statements)) (f .time) (s .truth) (now ++ drop (length now) (s .truth)) 0 l
           (omega (arith, length-map (p .statements) statementOf)) (simp (length-append, length-drop) (omega (arith, length-map (p .statements) statementOf)))
-          ∙ acts-only (map statementOf (p .statements)) (f .time) now (drop (length now) (en .truth)) (en .truth) l (n ∙ sym (length-map (p .statements) statementOf))
+          ∙ acts-only (map statementOf (p .statements)) (f .time) now (drop (length now) (s .truth)) (s .truth) l (n ∙ sym (length-map (p .statements) statementOf))
 
-      of-end : (o : Option (List Bool)) → evaluated (map statementOf (p .statements)) (states (p .triggers) (not (en .started)) (eventOf b f) (en .fired)) ≡ o → Evaluates o [] (en .truth) ev → ev .ok ≡ true
-          → settledAt fired (ev .truth) acts b (f .time) ≡ steppedOf en (acted (configOf p) en l (eventOf b f) o)
+      kept-is : firingsOf kept after ≡ firings (p .triggers) (not (s .started)) (eventOf b f) (firingsOf (s .ever) times)
+      kept-is =
+          ap (λ (x : List Bool). firingsOf x after) (keeps .0)
+          ∙ ap (λ (x : List ℕ). firingsOf (everAfter (fired .fires) (s .ever)) x) (keeps .1)
+          ∙ ap (λ (x : Fired). firingsOf (everAfter (x .fires) (s .ever)) (timesAfter (x .fires) (f .time) times)) fired-is
+          ∙ ap (λ (u : ℕ). firingsOf (everAfter fires-then (s .ever)) (timesAfter fires-then u times)) (sym (time-is b f))
+          ∙ all-kept (not (s .started)) (eventOf b f) (p .triggers) (32 - length (p .triggers)) (s .ever) times (omega arith) (omega arith)
+
+      of-end : (o : Option (List Bool)) → evaluated (map statementOf (p .statements)) now-true ≡ o → Evaluates o [] (s .truth) ev → ev .ok ≡ true
+          → reachedBy (settledAt kept (ev .truth) acts b (f .time)) after ≡ reached en (acted (configOf p) en l (eventOf b f) o)
       of-end none q h n = absurd (let z : _≡_ {A = ℕ} 0 1 = cc in omega arith)
       of-end (some now) q h n =
           rw (time-is b f, answer-is b f, ← acts-is now h (evaluated-length (map statementOf (p .statements)) _ now q ∙ length-map (p .statements) statementOf))
-          (ap (λ (x : Fired). settledAt x (ev .truth) acts b (f .time)) fired-is
-          ∙ ap (λ (x : Evaluated). settledAt (record { last = firings (p .triggers) (not (en .started)) (eventOf b f) (en .fired); states = [] }) (x .truth) acts b (f .time)) h)
+          (λ i. record {
+            answer = tickedOr b (recordedOrIdle (endedBy (f .time) acts));
+            engine = record { logging = endedBy (f .time) acts; fired = kept-is i; truth = h i .truth; started = true; last = f .time };
+          })
 
-      pub trigger-ends : not (ev .ok) ≡ false → settledAt fired (ev .truth) acts b (f .time) ≡ steppedOf en (triggered (configOf p) en l (eventOf b f))
+      pub trigger-ends : not (ev .ok) ≡ false → (r : Stepped) → r ≡ settledAt kept (ev .truth) acts b (f .time) → reachedBy r after ≡ reached en (triggered (configOf p) en l (eventOf b f))
       unfolding triggered
-      trigger-ends n = of-end (evaluated (map statementOf (p .statements)) (states (p .triggers) (not (en .started)) (eventOf b f) (en .fired))) refl ev-is (not-false (ev .ok) n)
+      trigger-ends n r q = ap (λ (x : Stepped). reachedBy x after) q ∙ of-end (evaluated (map statementOf (p .statements)) now-true) refl ev-is (not-false (ev .ok) n)
 
 -- ---- steps 1 to 4
+pub answers-by : (s : Running) (times : List ℕ) (l : Logging) (b : Bool) (f : Frame) (a : Answer) (r : Stepped) → r ≡ answeredAt s l b (f .time) a
+    → reachedBy r times ≡ reached (engineOf s times) (answered (engineOf s times) l (eventOf b f) a)
+answers-by s times l true f a r q = ap (λ (x : Stepped). reachedBy x times) q
+answers-by s times l false f a r q = ap (λ (x : Stepped). reachedBy x times) q
+
 module _ (c : Config) (en : Engine) (b : Bool) (f : Frame) (l : Logging) (el : l ≡ endedBy (f .time) (en .logging)) where
-  pub process-halted : isHalted l ≡ true → steppedOf en (answered en l (eventOf b f) answers.Halted) ≡ steppedOf en (process c en (eventOf b f))
+  pub process-halted : isHalted l ≡ true → reached en (answered en l (eventOf b f) answers.Halted) ≡ reached en (process c en (eventOf b f))
   unfolding process
   process-halted h = rw (time-is b f, ← el, h)
 
   module _ (h : isHalted l ≡ false) where
-    pub process-stopped : not (passes (c .filters) (eventOf b f)) ≡ true → steppedOf en (answered en l (eventOf b f) answers.Stopped) ≡ steppedOf en (process c en (eventOf b f))
+    pub process-stopped : not (passes (c .filters) (eventOf b f)) ≡ true → reached en (answered en l (eventOf b f) answers.Stopped) ≡ reached en (process c en (eventOf b f))
     unfolding process
     process-stopped s = rw (time-is b f, ← el, h, s)
 
     module _ (s : not (passes (c .filters) (eventOf b f)) ≡ false) where
-      pub process-all : c .logAll ≡ true → steppedOf en (answered en l (eventOf b f) answers.Recorded) ≡ steppedOf en (process c en (eventOf b f))
+      pub process-all : c .logAll ≡ true → reached en (answered en l (eventOf b f) answers.Recorded) ≡ reached en (process c en (eventOf b f))
       unfolding process
       process-all a = rw (time-is b f, ← el, h, s, a)
 
-      pub process-runs : c .logAll ≡ false → steppedOf en (triggered c en l (eventOf b f)) ≡ steppedOf en (process c en (eventOf b f))
+      pub process-runs : c .logAll ≡ false → reached en (triggered c en l (eventOf b f)) ≡ reached en (process c en (eventOf b f))
       unfolding process
       process-runs a = rw (time-is b f, ← el, h, s, a)
 
@@ -167,12 +200,12 @@ module _ (c : Config) (en : Engine) (k : Counts) (e : Event) where
   unfolding step
   step-refused n q z = rw (← q, ne-eqb n 0 z)
 
-  closes : (r : Result) (s : Stepped) (after : Counts) → s ≡ steppedOf en r → after ≡ counted k (s .answer)
+  closes : (r : Result) (s : Reached) (after : Counts) → s ≡ reached en r → after ≡ counted k (s .answer)
       → record { answer = s .answer; engine = s .engine; counts = after } ≡ closed en k r
-  closes faults s after q m = rw m (ap (λ (x : Stepped). record { answer = x .answer; engine = x .engine; counts = counted k (x .answer) }) q)
-  closes (gives a en2) s after q m = rw m (ap (λ (x : Stepped). record { answer = x .answer; engine = x .engine; counts = counted k (x .answer) }) q)
+  closes faults s after q m = rw m (ap (λ (x : Reached). record { answer = x .answer; engine = x .engine; counts = counted k (x .answer) }) q)
+  closes (gives a en2) s after q m = rw m (ap (λ (x : Reached). record { answer = x .answer; engine = x .engine; counts = counted k (x .answer) }) q)
 
-  pub step-goes : refusal c en k e ≡ 0 → (s : Stepped) (after : Counts) → s ≡ steppedOf en (process c en e) → after ≡ counted k (s .answer)
+  pub step-goes : refusal c en k e ≡ 0 → (s : Reached) (after : Counts) → s ≡ reached en (process c en e) → after ≡ counted k (s .answer)
       → record { answer = s .answer; engine = s .engine; counts = after } ≡ step c en k e
   unfolding step
   step-goes z s after q m = rw z (closes (process c en e) s after q m)
@@ -185,19 +218,19 @@ tick-fine c en k u e = rw e
 
 -- no tick is counted
 module _ (c : Config) (en : Engine) (k : Counts) (u : ℕ) where
-  tick-acted : (l : Logging) (o : Option (List Bool)) → counted k (steppedOf en (acted c en l (tick u) o) .answer) ≡ k
+  tick-acted : (l : Logging) (o : Option (List Bool)) → counted k (reached en (acted c en l (tick u) o) .answer) ≡ k
   tick-acted l none = refl
   tick-acted l (some now) = refl
 
   tick-by : (l : Logging) (h p a : Bool)
-      → counted k (steppedOf en (cond h (answered en l (tick u) answers.Halted) (cond p (answered en l (tick u) answers.Stopped) (cond a (answered en l (tick u) answers.Recorded) (triggered c en l (tick u))))) .answer) ≡ k
+      → counted k (reached en (cond h (answered en l (tick u) answers.Halted) (cond p (answered en l (tick u) answers.Stopped) (cond a (answered en l (tick u) answers.Recorded) (triggered c en l (tick u))))) .answer) ≡ k
   unfolding triggered
   tick-by l true p a = refl
   tick-by l false true a = refl
   tick-by l false false true = refl
   tick-by l false false false = tick-acted l (evaluated (c .statements) (states (c .triggers) (not (en .started)) (tick u) (en .fired)))
 
-  pub tick-uncounted : (s : Stepped) → s ≡ steppedOf en (process c en (tick u)) → k ≡ counted k (s .answer)
+  pub tick-uncounted : (s : Reached) → s ≡ reached en (process c en (tick u)) → k ≡ counted k (s .answer)
   unfolding process
   tick-uncounted s q =
-      sym (ap (λ (x : Stepped). counted k (x .answer)) q ∙ tick-by (endedBy u (en .logging)) (isHalted (endedBy u (en .logging))) (not (passes (c .filters) (tick u))) (c .logAll))
+      sym (ap (λ (x : Reached). counted k (x .answer)) q ∙ tick-by (endedBy u (en .logging)) (isHalted (endedBy u (en .logging))) (not (passes (c .filters) (tick u))) (c .logAll))

@@ -14,10 +14,13 @@ use Rattle.loader.specs.declared.Layout.{Layout}
 use Rattle.rows.specs.Rows.{rowsOf}
 use Rattle.rules.specs.declared.Engine.{Engine}
 use Rattle.rules.specs.declared.Logging.{Logging}
+use Rattle.rules.specs.declared.Outcome.{Outcome}
 use Rattle.rules.specs.declared.Answer.{Answer}
 use Rattle.rules.specs.declared.Answer.the-variants as answers
 use Rattle.rules.specs.Rules.{endedBy, recordedOrIdle, Result, gives, faults}
-use Rattle.firing.specs.declared.Fired.{Fired}
+use Rattle.firing.specs.Firings.{firingsOf}
+use Rattle.stepping.specs.declared.Running.{Running}
+use Rattle.stepping.specs.declared.Ran.{Ran}
 use Rattle.stepping.specs.declared.Stepped.{Stepped}
 
 -- ---- the plan that words are read as, whatever they are; a taken plan is read as itself
@@ -33,18 +36,37 @@ statementsIn ws lay = rowsOf statementSize statementAt 16 (getD ws 5 0) (drop (l
 abbrev pub planBy : List ℕ → Layout → Plan
 planBy ws lay = record { channels = getD ws 1 0; logAll = eqb (getD ws 2 0) 1; triggers = triggersIn ws; filters = filtersIn ws lay; statements = statementsIn ws lay }
 
+-- ---- the state, whose times of the last firings lie elsewhere
+abbrev pub engineOf : Running → List ℕ → Engine
+engineOf s times = record { logging = s .logging; fired = firingsOf (s .ever) times; truth = s .truth; started = s .started; last = s .last }
+
+abbrev pub outcomeOf : Ran → List ℕ → Outcome
+outcomeOf r times = record { answer = r .answer; engine = engineOf (r .state) times; counts = r .counts }
+
 -- ---- one event
+-- an answer and the engine behind it
+pub record Reached : Type 0 where
+  pub answer : Answer
+  pub engine : Engine
+
+abbrev pub reachedBy : Stepped → List ℕ → Reached
+reachedBy r times = record { answer = r .answer; engine = engineOf (r .state) times }
+
 abbrev pub tickedOr : Bool → Answer → Answer
 tickedOr ticks a = cond ticks answers.Ticked a
 
+-- an event that goes no further than the filters
+abbrev pub answeredAt : Running → Logging → Bool → ℕ → Answer → Stepped
+answeredAt s l ticks u a = record { answer = tickedOr ticks a; state = record { logging = l; ever = s .ever; truth = s .truth; started = s .started; last = u } }
+
 -- step 7, on what the statements left
-abbrev pub settledAt : Fired → List Bool → Logging → Bool → ℕ → Stepped
-settledAt fired truth acted ticks u = record {
+abbrev pub settledAt : List Bool → List Bool → Logging → Bool → ℕ → Stepped
+settledAt ever truth acted ticks u = record {
   answer = tickedOr ticks (recordedOrIdle (endedBy u acted));
-  engine = record { logging = endedBy u acted; fired = fired .last; truth = truth; started = true; last = u };
+  state = record { logging = endedBy u acted; ever = ever; truth = truth; started = true; last = u };
 }
 
 -- a fault is answered by 25, with the engine as it was
-abbrev pub steppedOf : Engine → Result → Stepped
-steppedOf en faults = record { answer = answers.Refused 25; engine = en }
-steppedOf en (gives a after) = record { answer = a; engine = after }
+abbrev pub reached : Engine → Result → Reached
+reached en faults = record { answer = answers.Refused 25; engine = en }
+reached en (gives a after) = record { answer = a; engine = after }

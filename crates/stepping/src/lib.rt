@@ -1,32 +1,45 @@
 // One event on the records that stand in words: what `lay` says where they begin.
 //
-// Promises: `step_frame` and `step_tick` answer any words, places, state, counts and event, as the rules of one event say for the plan that is read
-// off there; a refused call gives back state and counts as they were.
+// Promises: `run_frame` and `run_tick` answer any words, places, state, counts and event, as the rules of one event say for the plan that is read
+// off there; a refused call leaves state, times and counts as they were.
 // May not touch: files, XML. Whether the words are a plan is the loader's.
 ghost use mathlib.Core.Path.{_≡_};
 ghost use mathlib.Core.Bool.{false, not};
 ghost use Prim.Native.Nat.{_≤_};
-ghost use lib.ListN.{replicate};
-ghost use Rattle.rules.specs.Rules.{Event, frame, tick, passes, answered, triggered, process};
+ghost use lib.ListN.{length};
+ghost use Rattle.rules.specs.Rules.{Event, frame, tick, passes, triggered, process};
 ghost use Rattle.rules.specs.Calls.{full, counted, step, configOf};
 ghost use Rattle.rules.specs.Steps.{eventOf};
-ghost use Rattle.firing.specs.Firings.{fireAll};
-ghost use Rattle.stepping.specs.Steps.{triggersIn, filtersIn, planBy, tickedOr, settledAt, steppedOf};
+ghost use Rattle.firing.specs.Firings.{firingsOf, fireAll, noneFired};
+ghost use Rattle.stepping.specs.Steps.{triggersIn, filtersIn, planBy, engineOf, outcomeOf, reachedBy, tickedOr, answeredAt, settledAt, reached};
 use acting::Evaluated;
 use firing::Fired;
 use loader::Layout;
 use rules::Answer;
 use rules::Counts;
-use rules::Engine;
-use rules::Firing;
 use rules::Frame;
 use rules::Logging;
-use rules::Outcome;
+
+// The engine's state but for the times of the last firings, which are lent: a copy of them at each call would take longer than an event.
+pub struct Running {
+    pub logging: Logging,
+    pub ever: [bool; 32],
+    pub truth: [bool; 16],
+    pub started: bool,
+    pub last: u64,
+}
+
+// What a call gives.
+pub struct Ran {
+    pub answer: Answer,
+    pub state: Running,
+    pub counts: Counts,
+}
 
 // An answer and the state behind it.
 struct Stepped {
     answer: Answer,
-    engine: Engine,
+    state: Running,
 }
 
 fn ticked_or(ticks: bool, a: Answer) -> Answer
@@ -36,66 +49,69 @@ fn ticked_or(ticks: bool, a: Answer) -> Answer
 }
 
 // An event that goes no further than the filters.
-fn answer_with(en: Engine, l: Logging, ticks: bool, f: Frame, a: Answer) -> Stepped
-    ensures { λ r. ⌜ r ≡ steppedOf en (answered en l (eventOf ticks f) a) ⌝ }
+fn answer_with(s: Running, l: Logging, ticks: bool, u: u64, a: Answer) -> Stepped
+    ensures { λ r. ⌜ r ≡ answeredAt s l ticks u a ⌝ }
 {
     let answer = ticked_or(ticks, a);
-    let fired = en.fired;
-    let truth = en.truth;
-    let engine = Engine {
+    let ever = s.ever;
+    let truth = s.truth;
+    let state = Running {
         logging: l,
-        fired,
+        ever,
         truth,
-        started: en.started,
-        last: f.time,
+        started: s.started,
+        last: u,
     };
-    Stepped { answer, engine }
+    Stepped { answer, state }
 }
 
 // Step 7, on what the statements left.
-fn settle(fired: Fired, truth: [bool; 16], acted: Logging, ticks: bool, u: u64) -> Stepped
-    ensures { λ r. ⌜ r ≡ settledAt fired truth acted ticks u ⌝ }
+fn settle(ever: [bool; 32], truth: [bool; 16], acted: Logging, ticks: bool, u: u64) -> Stepped
+    ensures { λ r. ⌜ r ≡ settledAt ever truth acted ticks u ⌝ }
 {
     let logging = endings::ended_by(acted, u);
     let answer = ticked_or(ticks, endings::recorded_or_idle(logging));
-    let last_firings = fired.last;
-    let engine = Engine {
+    let state = Running {
         logging,
-        fired: last_firings,
+        ever,
         truth,
         started: true,
         last: u,
     };
-    Stepped { answer, engine }
+    Stepped { answer, state }
 }
 
-fn fire_triggers(words: &[u32], last: [Firing; 32], first: bool, ticks: bool, f: Frame) -> Fired
-    ensures { λ r. ⌜ r ≡ fireAll (triggersIn (now (words .entry))) first (eventOf ticks f) 0 (record { last = last; states = replicate 32 false }) ⌝ }
+fn fire_triggers(
+    words: &[u32],
+    ever: [bool; 32],
+    first: bool,
+    ticks: bool,
+    f: Frame,
+    times: &[u64; 32],
+) -> Fired
+    ensures { λ r. ⌜ (r ≡ fireAll (triggersIn (now (words .entry))) first (eventOf ticks f) (firingsOf ever (now (times .entry))) 0 noneFired) × (length ever ≡ 32) × (length (now (times .entry)) ≡ 32) ⌝ }
 {
-    let start = Fired {
-        last,
-        states: [false; 32],
-    };
     let count = records::word(words, 3);
     let triggers = rows::tail(words, 6);
-    firing::fire_all(triggers, count, first, ticks, f, start)
+    firing::fire_all(triggers, count, first, ticks, f, ever, times)
 }
 
-// Steps 5 to 7.
+// Steps 5 to 7. The times are set last: code at fault leaves them as they were.
 fn trigger_event(
     words: &[u32],
     lay: Layout,
-    en: Engine,
+    s: Running,
     l: Logging,
     ticks: bool,
     f: Frame,
+    times: &mut [u64; 32],
 ) -> Stepped
     requires { ⌜ f .time ≤ 10000000000000000 ⌝ }
-    ensures { λ r. ⌜ r ≡ steppedOf en (triggered (configOf (planBy (now (words .entry)) lay)) en l (eventOf ticks f)) ⌝ }
+    ensures { λ r. ⌜ reachedBy r (now (times .exit)) ≡ reached (engineOf s (now (times .entry))) (triggered (configOf (planBy (now (words .entry)) lay)) (engineOf s (now (times .entry))) l (eventOf ticks f)) ⌝ }
 {
-    let was = en.truth;
-    let last = en.fired;
-    let fired = fire_triggers(words, last, !en.started, ticks, f);
+    let was = s.truth;
+    let ever = s.ever;
+    let fired = fire_triggers(words, ever, !s.started, ticks, f, times);
     let states = fired.states;
     let begin = Evaluated {
         ok: true,
@@ -108,12 +124,14 @@ fn trigger_event(
     if !evaluated.ok {
         return Stepped {
             answer: Answer::Refused(25),
-            engine: en,
+            state: s,
         };
     }
     let truth = evaluated.truth;
     let acted = acting::act_risen(statements, count, f.time, was, truth, l);
-    settle(fired, truth, acted, ticks, f.time)
+    let fires = fired.fires;
+    let kept = firing::keep_firings(fires, f.time, ever, times);
+    settle(kept, truth, acted, ticks, f.time)
 }
 
 fn is_stopped(words: &[u32], lay: Layout, ticks: bool, f: Frame) -> bool
@@ -129,22 +147,29 @@ fn is_stopped(words: &[u32], lay: Layout, ticks: bool, f: Frame) -> bool
 }
 
 // Steps 1 to 7, for a frame, or for a tick at its time.
-fn process_event(words: &[u32], lay: Layout, en: Engine, ticks: bool, f: Frame) -> Stepped
+fn process_event(
+    words: &[u32],
+    lay: Layout,
+    s: Running,
+    ticks: bool,
+    f: Frame,
+    times: &mut [u64; 32],
+) -> Stepped
     requires { ⌜ f .time ≤ 10000000000000000 ⌝ }
-    ensures { λ r. ⌜ r ≡ steppedOf en (process (configOf (planBy (now (words .entry)) lay)) en (eventOf ticks f)) ⌝ }
+    ensures { λ r. ⌜ reachedBy r (now (times .exit)) ≡ reached (engineOf s (now (times .entry))) (process (configOf (planBy (now (words .entry)) lay)) (engineOf s (now (times .entry))) (eventOf ticks f)) ⌝ }
 {
-    let before = en.logging;
+    let before = s.logging;
     let l = endings::ended_by(before, f.time);
     if endings::is_halted(l) {
-        return answer_with(en, l, ticks, f, Answer::Halted);
+        return answer_with(s, l, ticks, f.time, Answer::Halted);
     }
     if is_stopped(words, lay, ticks, f) {
-        return answer_with(en, l, ticks, f, Answer::Stopped);
+        return answer_with(s, l, ticks, f.time, Answer::Stopped);
     }
     if records::word(words, 2) == 1 {
-        return answer_with(en, l, ticks, f, Answer::Recorded);
+        return answer_with(s, l, ticks, f.time, Answer::Recorded);
     }
-    trigger_event(words, lay, en, l, ticks, f)
+    trigger_event(words, lay, s, l, ticks, f, times)
 }
 
 fn count_answer(k: Counts, a: Answer) -> Counts
@@ -172,30 +197,52 @@ fn count_answer(k: Counts, a: Answer) -> Counts
 }
 
 // A frame.
-pub fn step_frame(words: &[u32], lay: Layout, en: Engine, k: Counts, f: Frame) -> Outcome
-    ensures { λ r. ⌜ r ≡ step (configOf (planBy (now (words .entry)) lay)) en k (Event.frame f) ⌝ }
+pub fn run_frame(
+    words: &[u32],
+    lay: Layout,
+    s: Running,
+    k: Counts,
+    f: Frame,
+    times: &mut [u64; 32],
+) -> Ran
+    ensures { λ r. ⌜ outcomeOf r (now (times .exit)) ≡ step (configOf (planBy (now (words .entry)) lay)) (engineOf s (now (times .entry))) k (Event.frame f) ⌝ }
 {
-    let n = admission::refusal_of_frame(records::word(words, 1), en.last, k, f);
+    let n = admission::refusal_of_frame(records::word(words, 1), s.last, k, f);
     if n != 0 {
-        return admission::refuse(n, en, k);
+        return Ran {
+            answer: Answer::Refused(n),
+            state: s,
+            counts: k,
+        };
     }
-    let s = process_event(words, lay, en, false, f);
-    let answer = s.answer;
-    let engine = s.engine;
+    let p = process_event(words, lay, s, false, f, times);
+    let answer = p.answer;
+    let state = p.state;
     let counts = count_answer(k, answer);
-    Outcome {
+    Ran {
         answer,
-        engine,
+        state,
         counts,
     }
 }
 
 // A tick, at u.
-pub fn step_tick(words: &[u32], lay: Layout, en: Engine, k: Counts, u: u64) -> Outcome
-    ensures { λ r. ⌜ r ≡ step (configOf (planBy (now (words .entry)) lay)) en k (Event.tick u) ⌝ }
+pub fn run_tick(
+    words: &[u32],
+    lay: Layout,
+    s: Running,
+    k: Counts,
+    u: u64,
+    times: &mut [u64; 32],
+) -> Ran
+    ensures { λ r. ⌜ outcomeOf r (now (times .exit)) ≡ step (configOf (planBy (now (words .entry)) lay)) (engineOf s (now (times .entry))) k (Event.tick u) ⌝ }
 {
-    if admission::is_late(en.last, u) {
-        return admission::refuse(22, en, k);
+    if admission::is_late(s.last, u) {
+        return Ran {
+            answer: Answer::Refused(22),
+            state: s,
+            counts: k,
+        };
     }
     let f = Frame {
         channel: 0,
@@ -207,12 +254,12 @@ pub fn step_tick(words: &[u32], lay: Layout, en: Engine, k: Counts, u: u64) -> O
         dlc: 0,
         bytes: [0; 8],
     };
-    let s = process_event(words, lay, en, true, f);
-    let answer = s.answer;
-    let engine = s.engine;
-    Outcome {
+    let p = process_event(words, lay, s, true, f, times);
+    let answer = p.answer;
+    let state = p.state;
+    Ran {
         answer,
-        engine,
+        state,
         counts: k,
     }
 }

@@ -4,53 +4,53 @@ use Rattle.firing.proofs.fire_all.Tie as tie
 use native.Mathlib.Omega.{arith}
 use Prim.Native.Nat.{_≤_, _-_, _*_}
 use mathlib.Core.Path.{_≡_, refl, _∙_}
-use lib.ListN.{drop}
+use lib.ListN.{length, drop}
 use Rattle.records.specs.Readers.{triggerSize, triggerAt}
 use Rattle.loader.specs.Scan.{recordsOf}
 use Rattle.rows.specs.Rows.{rowsOf}
 use Rattle.rules.specs.Steps.{eventOf}
-use Rattle.firing.specs.Firings.{fireAll}
-use Rattle.firing.proofs.Loops.{fire-start, fire-turn, fire-end}
+use Rattle.firing.specs.Firings.{firingsOf, fireAll}
+use Rattle.firing.proofs.Loops.{firing-at, fire-start, fire-turn, fire-end}
 use borrow.Author.Needs.{needs}
 
 abbrev Inv-loop : tie.InvT-loop
-Inv-loop triggers count first ticks f s₀ n at₀ i₀ s at i = (i ≤ n) × (n ≤ 32) × (at ≡ 6 * i) × (fireAll (recordsOf triggerSize triggerAt (n - i) (drop at triggers)) first (eventOf ticks f) i s ≡ fireAll (rowsOf triggerSize triggerAt 32 count triggers) first (eventOf ticks f) 0 s₀)
+Inv-loop triggers count first ticks f times ever s₀ n at₀ i₀ s at i = (i ≤ n) × (n ≤ 32) × (at ≡ 6 * i) × (fireAll (recordsOf triggerSize triggerAt (n - i) (drop at triggers)) first (eventOf ticks f) (firingsOf ever times) i s ≡ fireAll (rowsOf triggerSize triggerAt 32 count triggers) first (eventOf ticks f) (firingsOf ever times) 0 s₀) × (length ever ≡ 32) × (length times ≡ 32)
 
 abbrev μ-loop : tie.MeasureT-loop
-μ-loop triggers count first ticks f s₀ n at₀ i₀ s at i = n - i
+μ-loop triggers count first ticks f times ever s₀ n at₀ i₀ s at i = n - i
 
-at-most-32-requires : tie.Need-at-most-32-requires Inv-loop μ-loop
-at-most-32-requires c κs = search needs
+at-most-requires : tie.Need-at-most-requires Inv-loop μ-loop
+at-most-requires c κs = search needs
 
 loop-holds : tie.Need-loop-holds Inv-loop μ-loop
-loop-holds c = (omega arith, c .at-most-32 .ensures .1, refl, fire-start (c .before .before .args .triggers .now) (c .before .before .args .count) _ _ _ _ (c .at-most-32 .ensures .0))
+loop-holds c = let z : length (c .before .before .before .args .times .now) ≡ 32 = search needs in (omega arith, omega (arith, z, c .at-most .ensures .1), refl, fire-start (c .before .before .before .args .triggers .now) (c .before .before .before .args .count) _ _ _ _ (length (c .before .before .before .args .times .now)) _ (c .at-most .ensures .0) z, search needs, z)
 
 tail-requires : tie.Need-tail-requires Inv-loop μ-loop
 tail-requires c κs = search needs
 
-mul-turn-of : tie.Need-mul-turn-of Inv-loop μ-loop
-mul-turn-of c = search needs
+array-read-t20 : tie.Need-array-read-t20 Inv-loop μ-loop
+array-read-t20 c = search needs
 
-element-copy-out-turn-of : tie.Need-element-copy-out-turn-of Inv-loop μ-loop
-element-copy-out-turn-of c = search needs
+mul-t23 : tie.Need-mul-t23 Inv-loop μ-loop
+mul-t23 c = search needs
+
+element-copy-out-t26 : tie.Need-element-copy-out-t26 Inv-loop μ-loop
+element-copy-out-t26 c = search needs
 
 turn-of-requires : tie.Need-turn-of-requires Inv-loop μ-loop
 turn-of-requires c κs = search needs
 
-mul-last : tie.Need-mul-last Inv-loop μ-loop
-mul-last c = search needs
-
-element-set-from-last : tie.Need-element-set-from-last Inv-loop μ-loop
-element-set-from-last c = search needs
-
 element-write-s : tie.Need-element-write-s Inv-loop μ-loop
 element-write-s c = search needs
+
+element-write-s-2 : tie.Need-element-write-s-2 Inv-loop μ-loop
+element-write-s-2 c = search needs
 
 trigger-size-requires : tie.Need-trigger-size-requires Inv-loop μ-loop
 trigger-size-requires c κs = search needs
 
 add-at : tie.Need-add-at Inv-loop μ-loop
-add-at c = omega (arith, c .trigger-size .ensures, c .before .before .before .before .before .before .loop .inv .2)
+add-at c = omega (arith, c .trigger-size .ensures, c .before .before .before .before .before .loop .inv .2)
 
 add-i : tie.Need-add-i Inv-loop μ-loop
 add-i c = search needs
@@ -62,12 +62,14 @@ loop-again : tie.Need-loop-again Inv-loop μ-loop
 loop-again c = (
   omega arith,
   omega arith,
-  omega (arith, c .trigger-size .ensures, c .before .before .before .before .before .before .loop .inv .2),
-  fire-turn (c .before .before .before .before .before .before .before .before .before .args .triggers .now) _ _ _ _ (c .before .before .before .before .before .before .loop .at) _ (c .before .before .before .before .before .loop-test .taken) (c .before .before .before .before .tail .result .now) (c .before .before .before .before .tail .ensures) _ (c .trigger-size .ensures) _ (c .before .before .turn-of .ensures) ∙ c .before .before .before .before .before .before .loop .inv .3,
+  omega (arith, c .trigger-size .ensures, c .before .before .before .before .before .loop .inv .2),
+  fire-turn (c .before .before .before .before .before .before .before .before .before .args .triggers .now) _ _ _ _ _ (c .before .before .before .before .before .loop .at) _ (c .before .before .before .before .loop-test .taken) (c .before .before .before .tail .result .now) (c .before .before .before .tail .ensures) _ (c .trigger-size .ensures) _ (firing-at _ _ _ (omega (arith, c .before .before .before .before .before .loop .inv .4)) (omega (arith, c .before .before .before .before .before .loop .inv .5))) _ (c .before .turn-of .ensures) ∙ c .before .before .before .before .before .loop .inv .3,
+  c .before .before .before .before .before .loop .inv .4,
+  c .before .before .before .before .before .loop .inv .5,
 )
 
 returns : tie.Need-returns Inv-loop μ-loop
-returns c = fire-end (c .before .before .before .before .args .triggers .now) _ (c .before .before .before .before .args .first) (eventOf (c .before .before .before .before .args .ticks) (c .before .before .before .before .args .f)) (c .before .loop .i) (c .before .loop .at) _ (c .loop-test .left) ∙ c .before .loop .inv .3
+returns c = (fire-end (c .before .before .before .before .before .args .triggers .now) _ (c .before .before .before .before .before .args .first) (eventOf (c .before .before .before .before .before .args .ticks) (c .before .before .before .before .before .args .f)) _ (c .before .loop .i) (c .before .loop .at) _ (c .loop-test .left) ∙ c .before .loop .inv .3, c .before .loop .inv .4, c .before .loop .inv .5)
 
 pub fire-all-spec : {M : Type 1} → statement M
 fire-all-spec =
@@ -75,15 +77,15 @@ fire-all-spec =
     (tie.spec
     Inv-loop
     μ-loop
-    at-most-32-requires
+    at-most-requires
     loop-holds
     tail-requires
-    mul-turn-of
-    element-copy-out-turn-of
+    array-read-t20
+    mul-t23
+    element-copy-out-t26
     turn-of-requires
-    mul-last
-    element-set-from-last
     element-write-s
+    element-write-s-2
     trigger-size-requires
     add-at
     add-i

@@ -2,14 +2,12 @@
 use borrow.Author.Needs.{needs}
 use Rattle.stepping.proofs.answer_with.Statement.{statement}
 use Rattle.stepping.proofs.answer_with.Tie as tie
-use Rattle.firing.proofs.Ties.{time-is}
-use Rattle.stepping.proofs.Events.{answer-is}
 
 ticked-or-requires : tie.Need-ticked-or-requires
 ticked-or-requires c κs = search needs
 
 returns : tie.Need-returns
-returns c = rw (c .before .before .ticked-or .ensures, time-is _ _, answer-is _ _)
+returns c = rw (c .before .before .ticked-or .ensures)
 
 pub answer-with-spec : {M : Type 1} → statement M
 answer-with-spec = tie.close (tie.spec ticked-or-requires returns)

@@ -13,7 +13,7 @@ ticked-or-requires : tie.Need-ticked-or-requires
 ticked-or-requires c κs = search needs
 
 returns : tie.Need-returns
-returns c = rw (c .before .ticked-or .ensures, c .before .before .recorded-or-idle .ensures, c .before .before .before .ended-by .ensures)
+returns c = rw (c .ticked-or .ensures, c .before .recorded-or-idle .ensures, c .before .before .ended-by .ensures)
 
 pub settle-spec : {M : Type 1} → statement M
 settle-spec =

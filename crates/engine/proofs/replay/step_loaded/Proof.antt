@@ -2,6 +2,7 @@
 use borrow.Author.Needs.{needs}
 use Rattle.engine.proofs.replay.step_loaded.Statement.{statement}
 use Rattle.engine.proofs.replay.step_loaded.Tie as tie
+use mathlib.Core.Path.{refl}
 use Rattle.engine.proofs.Replays.{steps-not, steps-tick, steps-frame}
 
 enum-known-loaded : tie.Need-enum-known-loaded
@@ -10,11 +11,8 @@ enum-known-loaded c = search needs
 enum-told : tie.Need-enum-told
 enum-told c = search needs
 
-refuse-requires : tie.Need-refuse-requires
-refuse-requires c κs = search needs
-
 returns : tie.Need-returns
-returns c = steps-not (c .before .before .before .before .before .args .words .now) _ _ _ (c .before .before .before .before .before .args .event .now) _ (c .before .enum-told .given .1) (c .refuse .ensures)
+returns c = steps-not (c .before .before .before .before .args .words .now) _ _ _ (c .before .before .before .before .args .event .now) _ (c .enum-told .given .1) refl
 
 read-frame-requires : tie.Need-read-frame-requires
 read-frame-requires c κs = search needs
@@ -22,17 +20,17 @@ read-frame-requires c κs = search needs
 shared-slice-read-if1 : tie.Need-shared-slice-read-if1
 shared-slice-read-if1 c = search needs
 
-step-tick-requires : tie.Need-step-tick-requires
-step-tick-requires c κs = search needs
+run-tick-requires : tie.Need-run-tick-requires
+run-tick-requires c κs = search needs
 
 returns-2 : tie.Need-returns-2
-returns-2 c = steps-tick (c .before .before .before .before .before .before .before .before .before .args .words .now) _ _ _ (c .before .before .before .before .before .before .before .before .before .args .event .now) _ _ (c .before .before .before .before .before .loaded .given .1) _ (c .before .before .before .read-frame .ensures) (c .before .if1 .taken) (c .step-tick .ensures)
+returns-2 c = steps-tick (c .before .before .before .before .before .before .before .before .before .before .args .words .now) _ _ _ (c .before .before .before .before .before .before .before .before .before .before .args .event .now) _ _ (c .before .before .before .before .before .before .loaded .given .1) _ (c .before .before .before .before .read-frame .ensures) (c .before .before .if1 .taken) (c .run-tick .ensures)
 
-step-frame-requires : tie.Need-step-frame-requires
-step-frame-requires c κs = search needs
+run-frame-requires : tie.Need-run-frame-requires
+run-frame-requires c κs = search needs
 
 returns-3 : tie.Need-returns-3
-returns-3 c = steps-frame (c .before .before .before .before .before .before .before .before .before .args .words .now) _ _ _ (c .before .before .before .before .before .before .before .before .before .args .event .now) _ _ (c .before .before .before .before .before .loaded .given .1) _ (c .before .before .before .read-frame .ensures) (c .before .if1 .left) (c .step-frame .ensures)
+returns-3 c = steps-frame (c .before .before .before .before .before .before .before .before .before .before .args .words .now) _ _ _ (c .before .before .before .before .before .before .before .before .before .before .args .event .now) _ _ (c .before .before .before .before .before .before .loaded .given .1) _ (c .before .before .before .before .read-frame .ensures) (c .before .before .if1 .left) (c .run-frame .ensures)
 
 pub step-loaded-spec : {M : Type 1} → statement M
 step-loaded-spec =
@@ -40,11 +38,10 @@ step-loaded-spec =
     (tie.spec
     enum-known-loaded
     enum-told
-    refuse-requires
     returns
     read-frame-requires
     shared-slice-read-if1
-    step-tick-requires
+    run-tick-requires
     returns-2
-    step-frame-requires
+    run-frame-requires
     returns-3)

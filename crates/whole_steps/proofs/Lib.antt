@@ -1,0 +1,2 @@
+-- The last firings taken apart and put together.
+pub mod Parts
