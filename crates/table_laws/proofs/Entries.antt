@@ -16,13 +16,12 @@ use Rattle.schema.proofs.Laws.{kind-back, carried-name, carried-carried}
 use Rattle.element.specs.Element.{Known, _at_if_, ownFaults}
 use Rattle.element.specs.Steps.{firstNumber}
 use Rattle.element_laws.proofs.Laws.{clean-law}
-use Rattle.document.specs.declared.Entry.{Entry}
 use Rattle.document.specs.Document.{gathered, counted, knownIn, knownAt, known, placeOf, lacks, elementFaults}
 use Rattle.document.specs.Steps.{noEntry, entryOf, indexOf}
 use Rattle.document.proofs.Few.{Clean, append-none, clean-parts, clean-first}
 use Rattle.document.proofs.Stood.{Stood, All, all-append, all-stood}
-use Rattle.telling.specs.declared.Told.{Told}
-use Rattle.telling.specs.Steps.{folded, entriesOf, noHead, noTriggers, noNames, noFilters, noDrafts, nothing, tellHead, tellTrigger, tellName, tellFilter, tellDraft, tellEntry, told}
+use Rattle.telling.specs.Steps.{folded, entriesOf, noHead, noTriggers, noNames, noFilters, noDrafts, tellHead, tellTrigger, tellName, tellFilter, tellDraft, told}
+use Rattle.telling.proofs.Parts.{told-parts}
 use Rattle.table_laws.proofs.Wanted.{Fit}
 
 pub entries-are : (ks : List Known) → entriesOf (indexOf ks) ≡ map entryOf ks
@@ -30,39 +29,21 @@ unfolding indexOf
 entries-are ks = take-at (map entryOf ks) (replicate (382 - length ks) noEntry) (length ks) (length-map ks entryOf)
 
 -- ---- a part of what is told is the fold of that part
-module _ {A B : Type 0} (part : A → B) (whole : A → Entry → A) (step : B → Entry → B) (same-step : (a : A) (e : Entry) → part (whole a e) ≡ step (part a) e) where
-  part-folded : (a : A) (es : List Entry) → part (folded whole a es) ≡ folded step (part a) es
-  unfolding folded
-  part-folded a [] = refl
-  part-folded a (e ∷ es) = part-folded (whole a e) es ∙ ap (λ (b : B). folded step b es) (same-step a e)
-
 module _ (f : List ℕ) (ks : List Known) where
-  told-is : told f (indexOf ks) ≡ folded (tellEntry f) nothing (map entryOf ks)
-  unfolding told
-  told-is = ap (folded (tellEntry f) nothing) (entries-are ks)
-
-  told-part : {B : Type 0} (part : Told → B) (step : B → Entry → B) → ((t : Told) (e : Entry) → part (tellEntry f t e) ≡ step (part t) e) → part (told f (indexOf ks)) ≡ folded step (part nothing) (map entryOf ks)
-  told-part part step h = ap part told-is ∙ part-folded part (tellEntry f) step h nothing (map entryOf ks)
-
   pub told-head : told f (indexOf ks) .head ≡ folded (tellHead f) noHead (map entryOf ks)
-  unfolding tellEntry
-  told-head = told-part (λ t. t .head) (tellHead f) (λ t e. refl)
+  told-head = ap (λ t. t .head) (told-parts f (indexOf ks)) ∙ ap (folded (tellHead f) noHead) (entries-are ks)
 
   pub told-triggers : told f (indexOf ks) .triggers ≡ folded (tellTrigger f) noTriggers (map entryOf ks)
-  unfolding tellEntry
-  told-triggers = told-part (λ t. t .triggers) (tellTrigger f) (λ t e. refl)
+  told-triggers = ap (λ t. t .triggers) (told-parts f (indexOf ks)) ∙ ap (folded (tellTrigger f) noTriggers) (entries-are ks)
 
   pub told-names : told f (indexOf ks) .names ≡ folded (tellName f) noNames (map entryOf ks)
-  unfolding tellEntry
-  told-names = told-part (λ t. t .names) (tellName f) (λ t e. refl)
+  told-names = ap (λ t. t .names) (told-parts f (indexOf ks)) ∙ ap (folded (tellName f) noNames) (entries-are ks)
 
   pub told-filters : told f (indexOf ks) .filters ≡ folded (tellFilter f) noFilters (map entryOf ks)
-  unfolding tellEntry
-  told-filters = told-part (λ t. t .filters) (tellFilter f) (λ t e. refl)
+  told-filters = ap (λ t. t .filters) (told-parts f (indexOf ks)) ∙ ap (folded (tellFilter f) noFilters) (entries-are ks)
 
   pub told-drafts : told f (indexOf ks) .drafts ≡ folded (tellDraft f) noDrafts (map entryOf ks)
-  unfolding tellEntry
-  told-drafts = told-part (λ t. t .drafts) (tellDraft f) (λ t e. refl)
+  told-drafts = ap (λ t. t .drafts) (told-parts f (indexOf ks)) ∙ ap (folded (tellDraft f) noDrafts) (entries-are ks)
 
 -- ---- a document without faults
 pub faultless-parts : (x : Node) → elementFaults x ≡ [] → Clean (known x) × (any lacks (known x) ≡ false)

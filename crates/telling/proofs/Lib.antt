@@ -1,2 +1,3 @@
 pub mod Turns
-pub mod Last
+pub mod Rows
+pub mod Parts

@@ -94,6 +94,9 @@ tellFilter f t e =
 abbrev pub noActions : Actions
 noActions = record { words = replicate 6 0; count = 0 }
 
+abbrev pub emptyDraft : ℕ → Draft
+emptyDraft post = record { post = post; actions = noActions; text = 0 }
+
 abbrev pub noDraft : Draft
 noDraft = record { post = 0; actions = noActions; text = 0 }
 
@@ -118,6 +121,10 @@ withAction w d = record { post = d .post; actions = pushAction (d .actions) w; t
 
 abbrev pub actionFrom : Kind → ℕ
 actionFrom kind = cond (is kind "ACTION_START_LOG") 1 (cond (is kind "ACTION_STOP_LOG") 2 3)
+
+-- what an element within a STATEMENT, EXPRESSION or an action, changes in it
+unfoldable pub withPart : Kind → ℕ → Draft → Draft
+withPart kind place d = cond (is kind "EXPRESSION") (withText place d) (withAction (actionFrom kind) d)
 
 unfoldable pub tellDraft : List ℕ → Drafts → Entry → Drafts
 tellDraft f t e =

@@ -5,12 +5,12 @@
 // May not touch: faults, and the words of a plan.
 ghost use Prim.Native.Nat.{_<_, _≤_, _+_, _^_, min};
 ghost use mathlib.Core.Path.{_≡_};
-ghost use mathlib.Core.Bool.{true, cond};
+ghost use mathlib.Core.Bool.{cond};
 ghost use lib.Dec.{ltb};
-ghost use lib.ListN.{set};
+ghost use Rattle.ascii.specs.Texts.{bytes};
 ghost use Rattle.element.specs.Element.{goodOf};
-ghost use Rattle.telling.specs.Steps.{isUnder, noTriggers, pushTrigger, tellTrigger, noNames, pushName, tellName, noFilters, pushFilter, withChannel, addChannel, tellFilter, noActions, noDrafts, pushDraft, pushAction, changeLast, withText, withAction, tellDraft, noHead, tellHead, nothing, tellEntry, told};
-use document::Entry;
+ghost use Rattle.element.specs.Steps.{numbered, valueAt};
+ghost use Rattle.telling.specs.Steps.{folded, entriesOf, isUnder, noTriggers, tellTrigger, noNames, tellName, noFilters, withChannel, tellFilter, emptyDraft, noDrafts, pushAction, withPart, tellDraft, noHead, tellHead, told};
 use document::Index;
 use records::Cause;
 use records::Effect;
@@ -59,6 +59,12 @@ pub struct Told {
     pub drafts: Drafts,
 }
 
+fn fewer(a: usize, b: usize) -> usize
+    ensures { λ r. ⌜ r ≡ min a b ⌝ }
+{
+    if a < b { a } else { b }
+}
+
 fn is_trigger(kind: Kind) -> bool
     ensures { λ r. ⌜ r ≡ isUnder "TRIGGERS" kind ⌝ }
 {
@@ -66,30 +72,6 @@ fn is_trigger(kind: Kind) -> bool
         Kind::MsgId | Kind::MsgDlc | Kind::ErrorFrame | Kind::Startup => true,
         _ => false,
     }
-}
-
-fn push_trigger(t: Triggers, x: Trigger) -> Triggers
-    ensures { λ r. ⌜ r ≡ pushTrigger t x ⌝ }
-{
-    let next = t.count;
-    if next < 32 {
-        let mut all = t;
-        all.rows[next] = x;
-        all.count = next + 1;
-        return all;
-    }
-    t
-}
-
-fn tell_trigger(file: &[u8], t: Triggers, e: Entry) -> Triggers
-    ensures { λ r. ⌜ r ≡ tellTrigger (now (file .entry)) t e ⌝ }
-{
-    let kind = e.kind;
-    if is_trigger(kind) {
-        let x = reading::trigger_at(file, e.place, kind);
-        return push_trigger(t, x);
-    }
-    t
 }
 
 fn no_triggers() -> Triggers
@@ -105,41 +87,60 @@ fn no_triggers() -> Triggers
     }
 }
 
-fn no_names() -> Names
-    ensures { λ r. ⌜ r ≡ noNames ⌝ }
+fn tell_triggers(file: &[u8], index: Index) -> Triggers
+    ensures { λ r. ⌜ r ≡ folded (tellTrigger (now (file .entry))) noTriggers (entriesOf index) ⌝ }
 {
-    Names {
+    let n = fewer(index.count, 382);
+    let mut t = no_triggers();
+    let mut i = 0;
+    while i < n {
+        let e = index.entries[i];
+        let kind = e.kind;
+        i += 1;
+        if is_trigger(kind) {
+            let next = t.count;
+            if next < 32 {
+                t.rows[next] = reading::trigger_at(file, e.place, kind);
+                t.count = next + 1;
+            }
+        }
+    }
+    t
+}
+
+fn name_at(file: &[u8], place: usize) -> Part
+    ensures { λ r. ⌜ r ≡ valueAt (bytes "name") (now (file .entry)) place ⌝ }
+{
+    picking::value_at(file, place, b"name")
+}
+
+fn tell_names(file: &[u8], index: Index) -> Names
+    ensures { λ r. ⌜ r ≡ folded (tellName (now (file .entry))) noNames (entriesOf index) ⌝ }
+{
+    let n = fewer(index.count, 382);
+    let mut t = Names {
         starts: [0; 32],
         ends: [0; 32],
         places: [0; 32],
         count: 0,
+    };
+    let mut i = 0;
+    while i < n {
+        let e = index.entries[i];
+        let kind = e.kind;
+        i += 1;
+        if is_trigger(kind) {
+            let at = t.count;
+            if at < 32 {
+                let p = name_at(file, e.place);
+                t.starts[at] = p.from;
+                t.ends[at] = p.to;
+                t.places[at] = e.place;
+                t.count = at + 1;
+            }
+        }
     }
-}
-
-fn push_name(n: Names, p: Part, place: usize) -> Names
-    ensures { λ r. ⌜ r ≡ pushName n p place ⌝ }
-{
-    let at = n.count;
-    if at < 32 {
-        let mut all = n;
-        all.starts[at] = p.from;
-        all.ends[at] = p.to;
-        all.places[at] = place;
-        all.count = at + 1;
-        return all;
-    }
-    n
-}
-
-fn tell_name(file: &[u8], n: Names, e: Entry) -> Names
-    ensures { λ r. ⌜ r ≡ tellName (now (file .entry)) n e ⌝ }
-{
-    let kind = e.kind;
-    if is_trigger(kind) {
-        let p = picking::value_at(file, e.place, b"name");
-        return push_name(n, p, e.place);
-    }
-    n
+    t
 }
 
 fn no_filters() -> Filters
@@ -158,19 +159,6 @@ fn no_filters() -> Filters
         rows: [none; 32],
         count: 0,
     }
-}
-
-fn push_filter(t: Filters, x: Filter) -> Filters
-    ensures { λ r. ⌜ r ≡ pushFilter t x ⌝ }
-{
-    let n = t.count;
-    if n < 32 {
-        let mut all = t;
-        all.rows[n] = x;
-        all.count = n + 1;
-        return all;
-    }
-    t
 }
 
 // What a channel is in a mask.
@@ -204,29 +192,10 @@ fn with_channel(mask: u32, channel: u32) -> u32
     mask + bit
 }
 
-// A CHANNEL belongs to the filter before it.
-fn add_channel(t: Filters, channel: u32) -> Filters
-    ensures { λ r. ⌜ r ≡ addChannel t channel ⌝ }
+fn channel_at(file: &[u8], place: usize) -> u32
+    ensures { λ r. ⌜ r ≡ goodOf (numbered (now (file .entry)) place) ⌝ }
 {
-    let n = t.count;
-    if n < 1 {
-        return t;
-    }
-    if 32 < n {
-        return t;
-    }
-    let before = n - 1;
-    let rows = t.rows;
-    let mut x = rows[before];
-    x.mask = with_channel(x.mask, channel);
-    let mut all = t;
-    all.rows[before] = x;
-    all
-}
-
-fn number_of(w: Worth) -> u32
-    ensures { λ r. ⌜ r ≡ goodOf w ⌝ }
-{
+    let w = picking::channel_number(file, place);
     match w {
         Worth::Good(v) => v,
         Worth::Bad => 0,
@@ -234,65 +203,63 @@ fn number_of(w: Worth) -> u32
     }
 }
 
-fn tell_filter(file: &[u8], t: Filters, e: Entry) -> Filters
-    ensures { λ r. ⌜ r ≡ tellFilter (now (file .entry)) t e ⌝ }
+// A CHANNEL belongs to the filter before it.
+fn tell_filters(file: &[u8], index: Index) -> Filters
+    ensures { λ r. ⌜ r ≡ folded (tellFilter (now (file .entry))) noFilters (entriesOf index) ⌝ }
 {
-    let kind = e.kind;
-    let place = e.place;
-    match kind {
-        Kind::MessagePass | Kind::MessageStop => {
-            let x = filter_reading::filter_at(file, place, kind, 0);
-            push_filter(t, x)
+    let n = fewer(index.count, 382);
+    let mut t = no_filters();
+    let mut i = 0;
+    while i < n {
+        let e = index.entries[i];
+        let kind = e.kind;
+        i += 1;
+        match kind {
+            Kind::MessagePass | Kind::MessageStop => {
+                let at = t.count;
+                if at < 32 {
+                    t.rows[at] = filter_reading::filter_at(file, e.place, kind, 0);
+                    t.count = at + 1;
+                }
+            }
+            Kind::Channel => {
+                let count = t.count;
+                if (1 <= count) & (count <= 32) {
+                    let last = count - 1;
+                    let channel = channel_at(file, e.place);
+                    let mut x = t.rows[last];
+                    x.mask = with_channel(x.mask, channel);
+                    t.rows[last] = x;
+                }
+            }
+            _ => {}
         }
-        Kind::Channel => {
-            let w = picking::channel_number(file, place);
-            let channel = number_of(w);
-            add_channel(t, channel)
-        }
-        _ => t,
     }
+    t
 }
 
-fn no_actions() -> Actions
-    ensures { λ r. ⌜ r ≡ noActions ⌝ }
+fn empty_draft(post: u32) -> Draft
+    ensures { λ r. ⌜ r ≡ emptyDraft post ⌝ }
 {
-    Actions {
+    let actions = Actions {
         words: [0; 6],
         count: 0,
+    };
+    Draft {
+        post,
+        actions,
+        text: 0,
     }
 }
 
 fn no_drafts() -> Drafts
     ensures { λ r. ⌜ r ≡ noDrafts ⌝ }
 {
-    let actions = no_actions();
-    let none = Draft {
-        post: 0,
-        actions,
-        text: 0,
-    };
+    let none = empty_draft(0);
     Drafts {
         rows: [none; 16],
         count: 0,
     }
-}
-
-fn push_draft(t: Drafts, post: u32) -> Drafts
-    ensures { λ r. ⌜ r ≡ pushDraft t post ⌝ }
-{
-    let n = t.count;
-    if n < 16 {
-        let actions = no_actions();
-        let mut all = t;
-        all.rows[n] = Draft {
-            post,
-            actions,
-            text: 0,
-        };
-        all.count = n + 1;
-        return all;
-    }
-    t
 }
 
 fn push_action(a: Actions, w: u32) -> Actions
@@ -308,77 +275,62 @@ fn push_action(a: Actions, w: u32) -> Actions
     a
 }
 
-// EXPRESSION belongs to the STATEMENT before it.
-fn set_text(t: Drafts, place: usize) -> Drafts
-    ensures { λ r. ⌜ r ≡ changeLast (withText place) t ⌝ }
+// EXPRESSION and actions belong to the STATEMENT before them.
+fn with_part(d: Draft, kind: Kind, place: usize) -> Draft
+    ensures { λ r. ⌜ r ≡ withPart kind place d ⌝ }
 {
-    let n = t.count;
-    if n < 1 {
-        return t;
-    }
-    if 16 < n {
-        return t;
-    }
-    let last = n - 1;
-    let rows = t.rows;
-    let mut d = rows[last];
-    d.text = place;
-    let mut all = t;
-    all.rows[last] = d;
-    all
-}
-
-// So do the actions.
-fn add_action(t: Drafts, w: u32) -> Drafts
-    ensures { λ r. ⌜ r ≡ changeLast (withAction w) t ⌝ }
-{
-    let n = t.count;
-    if n < 1 {
-        return t;
-    }
-    if 16 < n {
-        return t;
-    }
-    let at = n - 1;
-    let rows = t.rows;
-    let d = rows[at];
     let before = d.actions;
-    let actions = push_action(before, w);
-    let mut all = t;
-    all.rows[at] = Draft {
+    let word = match kind {
+        Kind::Expression => {
+            return Draft {
+                post: d.post,
+                actions: before,
+                text: place,
+            };
+        }
+        Kind::StartLog => 1,
+        Kind::StopLog => 2,
+        _ => 3,
+    };
+    let actions = push_action(before, word);
+    Draft {
         post: d.post,
         actions,
         text: d.text,
-    };
-    all
+    }
 }
 
-fn tell_draft(file: &[u8], t: Drafts, e: Entry) -> Drafts
-    ensures { λ r. ⌜ r ≡ tellDraft (now (file .entry)) t e ⌝ }
+fn tell_drafts(file: &[u8], index: Index) -> Drafts
+    ensures { λ r. ⌜ r ≡ folded (tellDraft (now (file .entry))) noDrafts (entriesOf index) ⌝ }
 {
-    let kind = e.kind;
-    let place = e.place;
-    match kind {
-        Kind::Statement => {
-            let post = reading::number_at(file, place, kind, 1);
-            push_draft(t, post)
+    let n = fewer(index.count, 382);
+    let mut t = no_drafts();
+    let mut i = 0;
+    while i < n {
+        let e = index.entries[i];
+        let kind = e.kind;
+        i += 1;
+        match kind {
+            Kind::Statement => {
+                let at = t.count;
+                if at < 16 {
+                    let post = reading::number_at(file, e.place, kind, 1);
+                    t.rows[at] = empty_draft(post);
+                    t.count = at + 1;
+                }
+            }
+            Kind::Expression | Kind::StartLog | Kind::StopLog | Kind::StopLogCompletely => {
+                let count = t.count;
+                if (1 <= count) & (count <= 16) {
+                    let last = count - 1;
+                    let d = t.rows[last];
+                    t.rows[last] = with_part(d, kind, e.place);
+                }
+            }
+            _ => {}
         }
-        Kind::Expression => set_text(t, place),
-        Kind::StartLog => add_action(t, 1),
-        Kind::StopLog => add_action(t, 2),
-        Kind::StopLogCompletely => add_action(t, 3),
-        _ => t,
     }
-}
-
-fn no_head() -> Head
-    ensures { λ r. ⌜ r ≡ noHead ⌝ }
-{
-    Head {
-        channels: 0,
-        present: [false; 5],
-        all: false,
-    }
+    t
 }
 
 // Beyond every limit the count stands still.
@@ -388,102 +340,52 @@ fn one_more(channels: u32) -> u32
     if channels < 5 { channels + 1 } else { channels }
 }
 
-fn flagged(present: [bool; 5], channel: u32) -> [bool; 5]
-    ensures { λ r. ⌜ r ≡ set present channel true ⌝ }
+fn tell_head(file: &[u8], index: Index) -> Head
+    ensures { λ r. ⌜ r ≡ folded (tellHead (now (file .entry))) noHead (entriesOf index) ⌝ }
 {
-    if channel < 5 {
-        let mut next = present;
-        next[channel as usize] = true;
-        return next;
-    }
-    present
-}
-
-fn tell_head(file: &[u8], h: Head, e: Entry) -> Head
-    ensures { λ r. ⌜ r ≡ tellHead (now (file .entry)) h e ⌝ }
-{
-    let kind = e.kind;
-    let place = e.place;
-    let before = h.present;
-    match kind {
-        Kind::Parameters => {
-            let channel = reading::number_at(file, place, kind, 0);
-            let channels = one_more(h.channels);
-            let present = flagged(before, channel);
-            Head {
-                channels,
-                present,
-                all: h.all,
+    let n = fewer(index.count, 382);
+    let mut h = Head {
+        channels: 0,
+        present: [false; 5],
+        all: false,
+    };
+    let mut i = 0;
+    while i < n {
+        let e = index.entries[i];
+        let kind = e.kind;
+        i += 1;
+        match kind {
+            Kind::Parameters => {
+                let channel = reading::number_at(file, e.place, kind, 0);
+                h.channels = one_more(h.channels);
+                if channel < 5 {
+                    h.present[channel as usize] = true;
+                }
             }
-        }
-        Kind::Mode => {
-            let log = reading::number_at(file, place, kind, 0);
-            Head {
-                channels: h.channels,
-                present: before,
-                all: h.all | (log == 1),
+            Kind::Mode => {
+                let log = reading::number_at(file, e.place, kind, 0);
+                h.all = h.all | (log == 1);
             }
+            _ => {}
         }
-        _ => h,
     }
-}
-
-fn nothing_told() -> Told
-    ensures { λ r. ⌜ r ≡ nothing ⌝ }
-{
-    let head = no_head();
-    let triggers = no_triggers();
-    let names = no_names();
-    let filters = no_filters();
-    let drafts = no_drafts();
-    Told {
-        head,
-        triggers,
-        names,
-        filters,
-        drafts,
-    }
-}
-
-fn tell_entry(file: &[u8], yet: Told, e: Entry) -> Told
-    ensures { λ r. ⌜ r ≡ tellEntry (now (file .entry)) yet e ⌝ }
-{
-    let h = yet.head;
-    let t = yet.triggers;
-    let n = yet.names;
-    let f = yet.filters;
-    let d = yet.drafts;
-    let head = tell_head(file, h, e);
-    let triggers = tell_trigger(file, t, e);
-    let names = tell_name(file, n, e);
-    let filters = tell_filter(file, f, e);
-    let drafts = tell_draft(file, d, e);
-    Told {
-        head,
-        triggers,
-        names,
-        filters,
-        drafts,
-    }
-}
-
-fn fewer(a: usize, b: usize) -> usize
-    ensures { λ r. ⌜ r ≡ min a b ⌝ }
-{
-    if a < b { a } else { b }
+    h
 }
 
 // What the entries of an index say, in their order.
 pub fn tell(file: &[u8], index: Index) -> Told
     ensures { λ r. ⌜ r ≡ told (now (file .entry)) index ⌝ }
 {
-    let entries = index.entries;
-    let n = fewer(index.count, 382);
-    let mut all = nothing_told();
-    let mut i = 0;
-    while i < n {
-        all = tell_entry(file, all, entries[i]);
-        i += 1;
+    let head = tell_head(file, index);
+    let triggers = tell_triggers(file, index);
+    let names = tell_names(file, index);
+    let filters = tell_filters(file, index);
+    let drafts = tell_drafts(file, index);
+    Told {
+        head,
+        triggers,
+        names,
+        filters,
+        drafts,
     }
-    all
 }

@@ -1,13 +1,15 @@
--- `telling::no_drafts` meets its contract.
 use borrow.Author.Needs.{needs}
 use Rattle.telling.proofs.no_drafts.Statement.{statement}
 use Rattle.telling.proofs.no_drafts.Tie as tie
+use Rattle.telling.proofs.no_drafts.Reads as reads
+use Rattle.telling.proofs.no_drafts.Lts as lts
+use Rattle.telling.proofs.empty_draft.Reads as empty-draft-reads
 
-no-actions-requires : tie.Need-no-actions-requires
-no-actions-requires c κs = search needs
+empty-draft-requires : tie.Need-empty-draft-requires
+empty-draft-requires c κs = search needs
 
 returns : tie.Need-returns
-returns c = rw (c .no-actions .ensures)
+returns c = rw (c .empty-draft .ensures)
 
 pub no-drafts-spec : {M : Type 1} → statement M
-no-drafts-spec = tie.close (tie.spec no-actions-requires returns)
+no-drafts-spec = tie.close (tie.spec empty-draft-requires returns)

@@ -1,56 +1,112 @@
--- `telling::tell_head` meets its contract.
-use borrow.Author.Needs.{needs}
 use Rattle.telling.proofs.tell_head.Statement.{statement}
 use Rattle.telling.proofs.tell_head.Tie as tie
-use mathlib.Core.Path.{refl}
-use mathlib.Core.List.{[], _∷_}
-use Rattle.ascii.specs.Texts.{bytes, same}
-use Rattle.schema.specs.Schema.{parents, parentIn, any}
-use Rattle.schema.specs.Steps.{nameOf}
-use Rattle.schema.specs.declared.Kind.the-variants.{File, Kvaser, Version, Settings, CanBus, TriggerBlock, Triggers, MsgId, MsgDlc, ErrorFrame, Startup, Statements, Statement, Expression, Actions, StartLog, StopLog, StopLogCompletely, Filters, MessagePass, MessageStop, Channel, NotCarried, Unknown}
-use Rattle.schema.proofs.Every.{told}
-use Rattle.telling.specs.Steps.{tellHead}
+use Rattle.telling.proofs.tell_head.Reads as reads
+use Rattle.telling.proofs.tell_head.Lts as lts
+use Rattle.reading.proofs.number_at.Reads as number-at-reads
+use Rattle.telling.proofs.fewer.Reads as fewer-reads
+use Rattle.telling.proofs.one_more.Reads as one-more-reads
+use Prim.Native.Nat.{_-_}
+use mathlib.Core.Path.{_≡_, refl, sym, _∙_}
+use lib.ListN.{length, length-map, length-set}
+use Rattle.telling.specs.Steps.{noHead, tellHead}
+use Rattle.telling.proofs.Turns.{Turn, less, entry-there, entry-fits, next-fits, turn-none, turn-more, turn-all}
+use Rattle.telling.proofs.Rows.{parameters-told, beyond-told, mode-told, head-none}
+use borrow.Author.Needs.{needs}
 
-enum-told : tie.Need-enum-told
-enum-told c = search needs
+abbrev Inv-loop : tie.InvT-loop
+Inv-loop file index n h₀ i₀ h i = Turn (tellHead file) index n noHead h i × (length (h .present) ≡ 5)
 
-number-at-requires : tie.Need-number-at-requires
-number-at-requires c κs = search needs
+abbrev μ-loop : tie.MeasureT-loop
+μ-loop file index n h₀ i₀ h i = n - i
 
-one-more-requires : tie.Need-one-more-requires
-one-more-requires c κs = search needs
+fewer-requires : tie.Need-fewer-requires Inv-loop μ-loop
+fewer-requires c κs = tt
 
-flagged-requires : tie.Need-flagged-requires
-flagged-requires c κs = search needs
+loop-holds : tie.Need-loop-holds Inv-loop μ-loop
+loop-holds c = let l : length (c .before .before .args .t2 .entries) ≡ 382 = sym (length-map (c .before .before .args .t2 .entries) _) ∙ c .before .before .good .1 .0 .1 .1 .1 .1 .1 .0 .1 .0 .1 in
+    (turn-none _ _ _ _ _ l (c .fewer .ensures) refl, refl)
 
-enum-told-2 : tie.Need-enum-told-2
-enum-told-2 c = search needs
+mul-e : tie.Need-mul-e Inv-loop μ-loop
+mul-e c = entry-fits _ _ _ _ _ _ (c .before .loop .inv .0) (c .loop-test .taken)
 
-number-at-requires-2 : tie.Need-number-at-requires-2
-number-at-requires-2 c κs = search needs
+element-copy-out-e : tie.Need-element-copy-out-e Inv-loop μ-loop
+element-copy-out-e c = entry-there _ _ _ _ _ _ (c .before .loop .inv .0) (c .loop-test .taken)
 
-returns : tie.Need-returns
-unfolding tellHead parents parentIn any nameOf bytes same
-returns c = rw (c .flagged .ensures, c .before .one-more .ensures, c .before .before .number-at .ensures, c .before .before .before .enum-told .given .1)
+add-i : tie.Need-add-i Inv-loop μ-loop
+add-i c = next-fits _ _ _ _ _ _ (c .before .before .loop .inv .0) (c .before .loop-test .taken)
 
-returns-2 : tie.Need-returns-2
-unfolding tellHead parents parentIn any nameOf bytes same
-returns-2 c = rw (c .before .number-at2 .ensures, c .before .before .enum-told2 .given .1)
+enum-told : tie.Need-enum-told Inv-loop μ-loop
+enum-told c = c .match .keys1
 
-returns-3 : tie.Need-returns-3
-unfolding tellHead parents parentIn any nameOf bytes same
-returns-3 c = told (λ k. tellHead (c .before .before .before .args .file .now) (c .before .before .before .args .h) (record { kind = k; place = c .before .before .before .args .e .place })) _ (c .before .before .before .args .e .kind) (File ∷ Kvaser ∷ Version ∷ Settings ∷ CanBus ∷ TriggerBlock ∷ Triggers ∷ MsgId ∷ MsgDlc ∷ ErrorFrame ∷ Startup ∷ Statements ∷ Statement ∷ Expression ∷ Actions ∷ StartLog ∷ StopLog ∷ StopLogCompletely ∷ Filters ∷ MessagePass ∷ MessageStop ∷ Channel ∷ NotCarried ∷ Unknown ∷ []) refl (c .match .keys3)
+number-at-requires : tie.Need-number-at-requires Inv-loop μ-loop
+number-at-requires c κs = tt
+
+one-more-requires : tie.Need-one-more-requires Inv-loop μ-loop
+one-more-requires c κs = tt
+
+cast-h : tie.Need-cast-h Inv-loop μ-loop
+cast-h c = search needs
+
+element-write-h : tie.Need-element-write-h Inv-loop μ-loop
+element-write-h c = c .if1 .taken
+
+loop-less : tie.Need-loop-less Inv-loop μ-loop
+loop-less c = less _ _ (c .before .before .before .before .before .before .loop-test .taken)
+
+loop-again : tie.Need-loop-again Inv-loop μ-loop
+loop-again c = (turn-more _ _ _ _ _ _ _ (c .before .before .before .before .before .before .before .loop .inv .0) (c .before .before .before .before .before .before .loop-test .taken) (parameters-told _ _ _ _ _ (c .before .before .before .enum-told .given .1) (c .before .one-more .ensures) (c .before .before .number-at .ensures)), simp length-set (c .before .before .before .before .before .before .before .loop .inv .1))
+
+loop-less-2 : tie.Need-loop-less-2 Inv-loop μ-loop
+loop-less-2 c = less _ _ (c .before .before .before .before .before .before .loop-test .taken)
+
+loop-again-2 : tie.Need-loop-again-2 Inv-loop μ-loop
+loop-again-2 c = (turn-more _ _ _ _ _ _ _ (c .before .before .before .before .before .before .before .loop .inv .0) (c .before .before .before .before .before .before .loop-test .taken) (beyond-told _ _ _ _ _ (c .before .before .before .enum-told .given .1) (c .before .one-more .ensures) (c .before .before .number-at .ensures) (c .if1 .left) (c .before .before .before .before .before .before .before .loop .inv .1)), c .before .before .before .before .before .before .before .loop .inv .1)
+
+enum-told-2 : tie.Need-enum-told-2 Inv-loop μ-loop
+enum-told-2 c = c .match .keys2
+
+number-at-requires-2 : tie.Need-number-at-requires-2 Inv-loop μ-loop
+number-at-requires-2 c κs = tt
+
+loop-less-3 : tie.Need-loop-less-3 Inv-loop μ-loop
+loop-less-3 c = less _ _ (c .before .before .before .before .loop-test .taken)
+
+loop-again-3 : tie.Need-loop-again-3 Inv-loop μ-loop
+loop-again-3 c = (turn-more _ _ _ _ _ _ _ (c .before .before .before .before .before .loop .inv .0) (c .before .before .before .before .loop-test .taken) (mode-told _ _ _ _ (c .before .enum-told2 .given .1) (c .number-at2 .ensures)), c .before .before .before .before .before .loop .inv .1)
+
+loop-less-4 : tie.Need-loop-less-4 Inv-loop μ-loop
+loop-less-4 c = less _ _ (c .before .before .loop-test .taken)
+
+loop-again-4 : tie.Need-loop-again-4 Inv-loop μ-loop
+loop-again-4 c = (turn-more _ _ _ _ _ _ _ (c .before .before .before .loop .inv .0) (c .before .before .loop-test .taken) (head-none _ _ _ (c .match .keys3)), c .before .before .before .loop .inv .1)
+
+returns : tie.Need-returns Inv-loop μ-loop
+returns c = turn-all _ _ _ _ _ _ (c .before .loop .inv .0) (c .loop-test .left)
 
 pub tell-head-spec : {M : Type 1} → statement M
 tell-head-spec =
     tie.close
     (tie.spec
+    Inv-loop
+    μ-loop
+    fewer-requires
+    loop-holds
+    mul-e
+    element-copy-out-e
+    add-i
     enum-told
     number-at-requires
     one-more-requires
-    flagged-requires
+    cast-h
+    element-write-h
+    loop-less
+    loop-again
+    loop-less-2
+    loop-again-2
     enum-told-2
     number-at-requires-2
-    returns
-    returns-2
-    returns-3)
+    loop-less-3
+    loop-again-3
+    loop-less-4
+    loop-again-4
+    returns)

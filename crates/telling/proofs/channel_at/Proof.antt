@@ -1,0 +1,41 @@
+use borrow.Author.Needs.{needs}
+use Rattle.telling.proofs.channel_at.Statement.{statement}
+use Rattle.telling.proofs.channel_at.Tie as tie
+use Rattle.telling.proofs.channel_at.Reads as reads
+use Rattle.telling.proofs.channel_at.Lts as lts
+use Rattle.picking.proofs.channel_number.Reads as channel-number-reads
+use mathlib.Core.Path.{sym, ap, _∙_}
+use Rattle.element.specs.Element.{goodOf}
+
+channel-number-requires : tie.Need-channel-number-requires
+channel-number-requires c κs = search needs
+
+enum-known-w : tie.Need-enum-known-w
+enum-known-w c = search needs
+
+enum-told : tie.Need-enum-told
+enum-told c = search needs
+
+enum-told-2 : tie.Need-enum-told-2
+enum-told-2 c = search needs
+
+returns : tie.Need-returns
+returns c = sym (ap goodOf (sym (c .before .before .before .channel-number .ensures) ∙ c .before .w .given .1))
+
+returns-2 : tie.Need-returns-2
+returns-2 c = sym (ap goodOf (sym (c .before .before .channel-number .ensures) ∙ c .enum-told .given .1))
+
+returns-3 : tie.Need-returns-3
+returns-3 c = sym (ap goodOf (sym (c .before .before .channel-number .ensures) ∙ c .enum-told2 .given .1))
+
+pub channel-at-spec : {M : Type 1} → statement M
+channel-at-spec =
+    tie.close
+    (tie.spec
+    channel-number-requires
+    enum-known-w
+    enum-told
+    enum-told-2
+    returns
+    returns-2
+    returns-3)

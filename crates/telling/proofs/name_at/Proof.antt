@@ -1,0 +1,20 @@
+use borrow.Author.Needs.{needs}
+use Rattle.telling.proofs.name_at.Statement.{statement}
+use Rattle.telling.proofs.name_at.Tie as tie
+use Rattle.telling.proofs.name_at.Reads as reads
+use Rattle.telling.proofs.name_at.Lts as lts
+use Rattle.picking.proofs.value_at.Reads as value-at-reads
+use Rattle.ascii.specs.Texts.{bytes}
+
+slice-aggregate-value-at : tie.Need-slice-aggregate-value-at
+slice-aggregate-value-at c = search needs
+
+value-at-requires : tie.Need-value-at-requires
+value-at-requires c κs = search needs
+
+returns : tie.Need-returns
+unfolding bytes
+returns c = c .value-at .ensures
+
+pub name-at-spec : {M : Type 1} → statement M
+name-at-spec = tie.close (tie.spec slice-aggregate-value-at value-at-requires returns)
