@@ -1,6 +1,6 @@
 -- The entries of an index, what is told of them part by part, and that the known elements of a document without faults are fit.
 use Prim.Native.Nat.{ℕ, _-_}
-use mathlib.Core.Path.{_≡_, refl, sym, ap, _∙_}
+use mathlib.Core.Path.{_≡_, sym, ap, _∙_}
 use mathlib.Core.List.{List, [], _∷_, _++_, map, nil≢cons}
 use mathlib.Core.Bool.{true, false, true≢false}
 use lib.Dec.{eqb}
