@@ -7,6 +7,7 @@ use lib.ListN.{length, getD, set, drop}
 use lib.Dec.{leb}
 use native.Mathlib.Omega.{arith}
 use native.Mathlib.Nat.{sub-zero}
+use lib.Seq.{set-getD}
 use Rattle.records.specs.Readers.{triggerSize, triggerAt}
 use Rattle.loader.specs.Scan.{recordsOf}
 use Rattle.loader.proofs.Laws.{records-end}
@@ -105,6 +106,13 @@ module _ (fires ever : List Bool) (u : ℕ) (times : List ℕ) where
             rw (k .times-are)
             (fill-more 0 (timesAfter fires u times) times (length-zip _ fires times (k .long-fires ∙ sym (k .long-times))) i (omega (arith, k .long-times)) (r .at) time-next);
       }
+
+    -- a trigger that fires, and one that does not
+    pub keeps-fired : i < 32 → getD fires i false ≡ true → Keeps fires ever u times (i + 1) (set kept i true) (set now i u)
+    keeps-fired h b = keeps-more h (record { ever = true; at = u }) (rw b)
+
+    pub keeps-quiet : i < 32 → getD fires i false ≡ false → Keeps fires ever u times (i + 1) kept now
+    keeps-quiet h b = rw (set-getD kept i false, set-getD now i 0) at (keeps-more h (record { ever = getD kept i false; at = getD now i 0 }) (rw b))
 
     pub keeps-all : 32 ≤ i → (kept ≡ everAfter fires ever) × (now ≡ timesAfter fires u times)
     unfolding everAfter timesAfter

@@ -102,14 +102,13 @@ pub fn keep_firings(
     let mut kept = ever;
     let mut i = 0;
     while i < n {
-        let l = Firing {
-            ever: kept[i],
-            at: times[i],
-        };
-        let after = lasting::firing_after(fires[i], l, u);
-        kept[i] = after.ever;
-        times[i] = after.at;
+        let at = i;
         i += 1;
+        // Written only where one fires: few do, and what was just written is slow to copy.
+        if fires[at] {
+            kept[at] = true;
+            times[at] = u;
+        }
     }
     kept
 }

@@ -1,9 +1,8 @@
 // How long a trigger stays true.
 //
-// Promises: each function is one line of the rules of one event (step 5).
+// Promises: `trigger_lasts` is one line of the rules of one event (step 5).
 // May not touch: plan words, frames, the logging state, counts.
 ghost use mathlib.Core.Path.{_≡_};
-ghost use mathlib.Core.Bool.{true, cond};
 ghost use Prim.Native.Nat.{_+_, _*_};
 ghost use lib.Dec.{ltb};
 ghost use Rattle.rules.specs.Rules.{lasts};
@@ -30,15 +29,5 @@ pub fn trigger_lasts(timeout: Timeout, l: Firing, u: u64) -> bool
             let open = before_end(u, l.at, ms);
             l.ever & open
         }
-    }
-}
-
-pub fn firing_after(fired: bool, l: Firing, u: u64) -> Firing
-    ensures { λ r. ⌜ r ≡ cond fired (record { ever = true; at = u }) l ⌝ }
-{
-    if fired {
-        Firing { ever: true, at: u }
-    } else {
-        l
     }
 }
