@@ -1,7 +1,7 @@
 -- The triggers as the loops go: by index into arrays. Nobody has to believe it: proofs/Ties shows it equal to the rules.
 use Prim.Native.Nat.{ℕ, _+_}
 use mathlib.Core.List.{List, [], _∷_, zipWith}
-use mathlib.Core.Bool.{Bool, true, false, _||_, cond}
+use mathlib.Core.Bool.{Bool, false, _||_, cond}
 use lib.ListN.{getD, set, replicate}
 use Rattle.records.specs.declared.Trigger.{Trigger}
 use Rattle.rules.specs.declared.Firing.{Firing}

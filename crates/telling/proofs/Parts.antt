@@ -5,10 +5,10 @@ use mathlib.Core.List.{List, [], _∷_}
 use Rattle.document.specs.declared.Entry.{Entry}
 use Rattle.document.specs.declared.Index.{Index}
 use Rattle.telling.specs.declared.Told.{Told}
-use Rattle.telling.specs.Steps.{folded, entriesOf, noHead, noTriggers, noNames, noFilters, noDrafts, nothing, tellHead, tellTrigger, tellName, tellFilter, tellDraft, tellEntry, told}
+use Rattle.telling.specs.Steps.{folded, entriesOf, nothing, tellHead, tellTrigger, tellName, tellFilter, tellDraft, tellEntry, told}
 
 module _ (f : List ℕ) where
-  abbrev parts : Told → List Entry → Told
+  abbrev pub parts : Told → List Entry → Told
   parts t es = record {
     head = folded (tellHead f) (t .head) es;
     triggers = folded (tellTrigger f) (t .triggers) es;

@@ -1,9 +1,6 @@
 -- `keep_firings`. Invariant: the first i are kept.
 use Rattle.firing.proofs.keep_firings.Statement.{statement}
 use Rattle.firing.proofs.keep_firings.Tie as tie
-use Rattle.firing.proofs.keep_firings.Reads as reads
-use Rattle.firing.proofs.keep_firings.Lts as lts
-use Rattle.firing.proofs.length_of.Reads as length-of-reads
 use native.Mathlib.Omega.{arith}
 use Prim.Native.Nat.{_-_}
 use mathlib.Core.Path.{_≡_}

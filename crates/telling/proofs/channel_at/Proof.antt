@@ -1,9 +1,7 @@
+-- `telling::channel_at` meets its contract.
 use borrow.Author.Needs.{needs}
 use Rattle.telling.proofs.channel_at.Statement.{statement}
 use Rattle.telling.proofs.channel_at.Tie as tie
-use Rattle.telling.proofs.channel_at.Reads as reads
-use Rattle.telling.proofs.channel_at.Lts as lts
-use Rattle.picking.proofs.channel_number.Reads as channel-number-reads
 use mathlib.Core.Path.{sym, ap, _∙_}
 use Rattle.element.specs.Element.{goodOf}
 

@@ -1,9 +1,7 @@
+-- `telling::name_at` meets its contract.
 use borrow.Author.Needs.{needs}
 use Rattle.telling.proofs.name_at.Statement.{statement}
 use Rattle.telling.proofs.name_at.Tie as tie
-use Rattle.telling.proofs.name_at.Reads as reads
-use Rattle.telling.proofs.name_at.Lts as lts
-use Rattle.picking.proofs.value_at.Reads as value-at-reads
 use Rattle.ascii.specs.Texts.{bytes}
 
 slice-aggregate-value-at : tie.Need-slice-aggregate-value-at

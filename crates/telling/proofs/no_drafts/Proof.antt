@@ -1,9 +1,7 @@
+-- `telling::no_drafts` meets its contract.
 use borrow.Author.Needs.{needs}
 use Rattle.telling.proofs.no_drafts.Statement.{statement}
 use Rattle.telling.proofs.no_drafts.Tie as tie
-use Rattle.telling.proofs.no_drafts.Reads as reads
-use Rattle.telling.proofs.no_drafts.Lts as lts
-use Rattle.telling.proofs.empty_draft.Reads as empty-draft-reads
 
 empty-draft-requires : tie.Need-empty-draft-requires
 empty-draft-requires c κs = search needs

@@ -1,14 +1,8 @@
+-- `telling::tell` meets its contract.
 use borrow.Author.Needs.{needs}
 use Rattle.telling.proofs.tell.Statement.{statement}
 use Rattle.telling.proofs.tell.Tie as tie
-use Rattle.telling.proofs.tell.Reads as reads
-use Rattle.telling.proofs.tell.Lts as lts
-use Rattle.telling.proofs.tell_drafts.Reads as tell-drafts-reads
-use Rattle.telling.proofs.tell_filters.Reads as tell-filters-reads
-use Rattle.telling.proofs.tell_head.Reads as tell-head-reads
-use Rattle.telling.proofs.tell_names.Reads as tell-names-reads
-use Rattle.telling.proofs.tell_triggers.Reads as tell-triggers-reads
-use mathlib.Core.Path.{sym, _∙_}
+use mathlib.Core.Path.{sym}
 use Rattle.telling.proofs.Parts.{told-parts}
 
 tell-head-requires : tie.Need-tell-head-requires

@@ -1,12 +1,6 @@
+-- `telling::tell_drafts` meets its contract. The loop's invariant: what the rest of the entries adds is the whole.
 use Rattle.telling.proofs.tell_drafts.Statement.{statement}
 use Rattle.telling.proofs.tell_drafts.Tie as tie
-use Rattle.telling.proofs.tell_drafts.Reads as reads
-use Rattle.telling.proofs.tell_drafts.Lts as lts
-use Rattle.reading.proofs.number_at.Reads as number-at-reads
-use Rattle.telling.proofs.empty_draft.Reads as empty-draft-reads
-use Rattle.telling.proofs.fewer.Reads as fewer-reads
-use Rattle.telling.proofs.no_drafts.Reads as no-drafts-reads
-use Rattle.telling.proofs.with_part.Reads as with-part-reads
 use Prim.Native.Nat.{_-_}
 use mathlib.Core.Path.{_≡_, sym, _∙_}
 use native.Mathlib.Nat.{lt-of-lt-of-le}

@@ -1,12 +1,6 @@
+-- `telling::tell_filters` meets its contract. The loop's invariant: what the rest of the entries adds is the whole.
 use Rattle.telling.proofs.tell_filters.Statement.{statement}
 use Rattle.telling.proofs.tell_filters.Tie as tie
-use Rattle.telling.proofs.tell_filters.Reads as reads
-use Rattle.telling.proofs.tell_filters.Lts as lts
-use Rattle.filter_reading.proofs.filter_at.Reads as filter-at-reads
-use Rattle.telling.proofs.channel_at.Reads as channel-at-reads
-use Rattle.telling.proofs.fewer.Reads as fewer-reads
-use Rattle.telling.proofs.no_filters.Reads as no-filters-reads
-use Rattle.telling.proofs.with_channel.Reads as with-channel-reads
 use Prim.Native.Nat.{_-_}
 use mathlib.Core.Path.{_≡_, sym, _∙_}
 use native.Mathlib.Nat.{lt-of-lt-of-le}

@@ -1,10 +1,6 @@
+-- `telling::tell_head` meets its contract. The loop's invariant: what the rest of the entries adds is the whole.
 use Rattle.telling.proofs.tell_head.Statement.{statement}
 use Rattle.telling.proofs.tell_head.Tie as tie
-use Rattle.telling.proofs.tell_head.Reads as reads
-use Rattle.telling.proofs.tell_head.Lts as lts
-use Rattle.reading.proofs.number_at.Reads as number-at-reads
-use Rattle.telling.proofs.fewer.Reads as fewer-reads
-use Rattle.telling.proofs.one_more.Reads as one-more-reads
 use Prim.Native.Nat.{_-_}
 use mathlib.Core.Path.{_≡_, refl, sym, _∙_}
 use lib.ListN.{length, length-map, length-set}

@@ -1,10 +1,6 @@
+-- `telling::tell_names` meets its contract. The loop's invariant: what the rest of the entries adds is the whole.
 use Rattle.telling.proofs.tell_names.Statement.{statement}
 use Rattle.telling.proofs.tell_names.Tie as tie
-use Rattle.telling.proofs.tell_names.Reads as reads
-use Rattle.telling.proofs.tell_names.Lts as lts
-use Rattle.telling.proofs.fewer.Reads as fewer-reads
-use Rattle.telling.proofs.is_trigger.Reads as is-trigger-reads
-use Rattle.telling.proofs.name_at.Reads as name-at-reads
 use Prim.Native.Nat.{_-_}
 use mathlib.Core.Path.{_≡_, refl, sym, _∙_}
 use native.Mathlib.Nat.{lt-of-lt-of-le}

@@ -1,11 +1,6 @@
+-- `telling::tell_triggers` meets its contract. The loop's invariant: what the rest of the entries adds is the whole.
 use Rattle.telling.proofs.tell_triggers.Statement.{statement}
 use Rattle.telling.proofs.tell_triggers.Tie as tie
-use Rattle.telling.proofs.tell_triggers.Reads as reads
-use Rattle.telling.proofs.tell_triggers.Lts as lts
-use Rattle.reading.proofs.trigger_at.Reads as trigger-at-reads
-use Rattle.telling.proofs.fewer.Reads as fewer-reads
-use Rattle.telling.proofs.is_trigger.Reads as is-trigger-reads
-use Rattle.telling.proofs.no_triggers.Reads as no-triggers-reads
 use Prim.Native.Nat.{_-_}
 use mathlib.Core.Path.{_≡_, sym, _∙_}
 use native.Mathlib.Nat.{lt-of-lt-of-le}

@@ -1,9 +1,7 @@
+-- `telling::with_part` meets its contract.
 use borrow.Author.Needs.{needs}
 use Rattle.telling.proofs.with_part.Statement.{statement}
 use Rattle.telling.proofs.with_part.Tie as tie
-use Rattle.telling.proofs.with_part.Reads as reads
-use Rattle.telling.proofs.with_part.Lts as lts
-use Rattle.telling.proofs.push_action.Reads as push-action-reads
 use mathlib.Core.Path.{refl}
 use mathlib.Core.List.{[], _∷_}
 use mathlib.Core.Logic.{⊎-elim}
