@@ -55,7 +55,7 @@ fn compile_text(text: &[u8], file: &[u8], names: Names) -> Compiled
 }
 
 // The code of the text of the element at a place. Nearly every text is one piece, and is read where it stands; others are joined in a buffer.
-// One function, since each that `names` is handed on to copies it.
+// One function, so that `names`, which goes by value, is handed on once.
 fn compile_at(file: &[u8], names: Names, place: usize) -> Compiled
     ensures { λ r. ⌜ r ≡ compiledAt (now (file .entry)) names place ⌝ }
 {

@@ -40,7 +40,7 @@ fn turn_of(rec: &[u32], first: bool, ticks: bool, f: Frame, l: Firing) -> Turn
     }
 }
 
-// How many triggers to fire. A number, since a second way out of `fire_all` would have its result copied once more.
+// How many triggers to fire: none where there are more than times.
 fn at_most(count: u32, times: &[u64]) -> usize
     ensures { λ r. ⌜ (r ≡ cond (leb count (length (now (times .entry)))) count 0) × (r ≤ length (now (times .entry))) ⌝ }
 {
@@ -104,7 +104,6 @@ pub fn keep_firings(
     while i < n {
         let at = i;
         i += 1;
-        // Written only where one fires: few do, and what was just written is slow to copy.
         if fires[at] {
             kept[at] = true;
             times[at] = u;

@@ -20,7 +20,7 @@ use rules::Counts;
 use rules::Frame;
 use rules::Logging;
 
-// The engine's state but for the times of the last firings, which are lent: a copy of them at each call would take longer than an event.
+// The engine's state but for the times of the last firings, which are lent: most of its bytes are theirs, and by value they would be copied at each call.
 pub struct Running {
     pub logging: Logging,
     pub ever: [bool; 32],
