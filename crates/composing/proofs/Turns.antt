@@ -7,8 +7,8 @@ use mathlib.Core.List.{List, _∷_}
 use lib.ListN.{length, getD, take, drop, length-take, drop-of-length-le}
 use lib.Seq.{drop-cons, length-take-le, getD-take}
 use Rattle.lexer.specs.Lex.{namesIn}
-use Rattle.expression.specs.declared.Verdict.the-variants.{Good, Broken, Unknown}
-use Rattle.expression.specs.declared.Compiled.{Compiled}
+use Rattle.grammar.specs.declared.Verdict.the-variants.{Good, Broken, Unknown}
+use Rattle.grammar.specs.declared.Compiled.{Compiled}
 use Rattle.writer.specs.declared.Line.{Line}
 use Rattle.writer.specs.declared.Lines.{Lines}
 use Rattle.writer.proofs.Writes.{cut-is}

@@ -4,10 +4,10 @@ use mathlib.Core.List.{List, [], _∷_}
 use mathlib.Core.Bool.{cond}
 use lib.Dec.{ltb}
 use lib.ListN.{set, take, replicate}
-use Rattle.expression.specs.declared.Verdict.{Verdict}
-use Rattle.expression.specs.declared.Verdict.the-variants.{Good, Broken, Unknown}
-use Rattle.expression.specs.declared.Compiled.{Compiled}
-use Rattle.expression.specs.Steps.{compiled}
+use Rattle.grammar.specs.declared.Verdict.{Verdict}
+use Rattle.grammar.specs.declared.Verdict.the-variants.{Good, Broken, Unknown}
+use Rattle.grammar.specs.declared.Compiled.{Compiled}
+use Rattle.grammar.specs.Steps.{compiled}
 use Rattle.element.specs.Steps.{shortText}
 use Rattle.writer.specs.declared.Line.{Line}
 use Rattle.writer.specs.declared.Lines.{Lines}

@@ -10,9 +10,9 @@ use borrow.Author.Tests.{ne-eqb, lt-ltb, le-ltb}
 use Rattle.xml.specs.declared.Shape.{Shape}
 use Rattle.xml.specs.declared.Shape.the-variants.{Whole, TooLong, Broken}
 use Rattle.xml.specs.Shape.{Node, WellShaped, refusalOf}
-use Rattle.expression.specs.declared.Compiled.{Compiled}
-use Rattle.expression.specs.Steps.{compiled}
-use Rattle.expression.proofs.Ruled.{gives}
+use Rattle.grammar.specs.declared.Compiled.{Compiled}
+use Rattle.grammar.specs.Steps.{compiled}
+use Rattle.grammar.proofs.Ruled.{gives}
 use Rattle.element.specs.Element.{Known, Fault, _at_if_}
 use Rattle.document.specs.declared.Index.{Index}
 use Rattle.document.specs.Document.{known, elementFaults}

@@ -14,11 +14,11 @@ use Rattle.records.specs.declared.Trigger.{Trigger}
 use Rattle.records.specs.declared.Filter.{Filter}
 use Rattle.records.specs.declared.Action.{Action}
 use Rattle.loader.specs.Plan.{row, wordsOf}
-use Rattle.expression.specs.declared.Verdict.{Verdict}
-use Rattle.expression.specs.declared.Verdict.the-variants.{Good, Broken, Unknown}
-use Rattle.expression.specs.declared.Compiled.{Compiled}
-use Rattle.expression.specs.Outcome.{refusal}
-use Rattle.expression.specs.Steps.{compiled}
+use Rattle.grammar.specs.declared.Verdict.{Verdict}
+use Rattle.grammar.specs.declared.Verdict.the-variants.{Good, Broken, Unknown}
+use Rattle.grammar.specs.declared.Compiled.{Compiled}
+use Rattle.grammar.specs.Outcome.{refusal}
+use Rattle.grammar.specs.Steps.{compiled}
 use Rattle.element.specs.Element.{Known, Fault, textOf}
 use Rattle.element.specs.Steps.{shortText}
 use Rattle.reading.specs.Reading.{is, busOf, actionOf}

@@ -10,8 +10,8 @@ use Rattle.xml.specs.declared.Shape.the-variants.{Whole, TooLong, Broken}
 use Rattle.xml.specs.Shape.{Node, WellShaped, Shaped, refusalOf}
 use Rattle.xml_laws.proofs.OneDoc.{one-doc}
 use Rattle.xml_laws.proofs.OneAnswer.{one-answer}
-use Rattle.expression.specs.declared.Compiled.{Compiled}
-use Rattle.expression.proofs.Ruled.{gives-once}
+use Rattle.grammar.specs.declared.Compiled.{Compiled}
+use Rattle.grammar.proofs.Ruled.{gives-once}
 use Rattle.element.specs.Element.{Fault}
 use Rattle.converter.specs.declared.Converted.{Converted}
 use Rattle.converter.specs.declared.Converted.the-variants.{Words, Refused}

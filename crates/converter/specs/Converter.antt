@@ -10,8 +10,8 @@ use Rattle.xml.specs.declared.Shape.{Shape}
 use Rattle.xml.specs.Shape.{Node, WellShaped, Shaped, refusalOf}
 use Rattle.records.specs.Records.{Statement}
 use Rattle.loader.specs.Plan.{Plan, wordsOf}
-use Rattle.expression.specs.declared.Compiled.{Compiled}
-use Rattle.expression.specs.Outcome.{Gives, refusal}
+use Rattle.grammar.specs.declared.Compiled.{Compiled}
+use Rattle.grammar.specs.Outcome.{Gives, refusal}
 use Rattle.element.specs.Element.{Known, Fault, _at_if_, textOf}
 use Rattle.reading.specs.Reading.{is}
 use Rattle.document.specs.Document.{gathered, known, elementFaults}

@@ -1,16 +1,19 @@
 // Expressions of triggers, read into postfix code.
 //
-// Promises: `compile` answers every input, by value and to the last word, as specs/Outcome.antt says it: the words of the one tree that the text is, or
-// that it breaks the rules (refusal 11), or else that a word names no trigger (12).
+// Promises: `compile` answers every input, by value and to the last word, as crates/grammar/specs/Outcome.antt says it: the words of the one tree
+// that the text is, or that it breaks the rules (refusal 11), or else that a word names no trigger (12).
 // May not touch: anything but the text and the names it is lent. It knows nothing of XML and nothing of where the code goes.
 ghost use mathlib.Core.Path.{_≡_};
 ghost use mathlib.Core.List.{map};
 ghost use Prim.Native.Nat.{_≤_};
 ghost use lib.ListN.{length, drop};
 ghost use Rattle.lexer.specs.Lex.{namesIn};
-ghost use Rattle.expression.specs.Tree.{or, and, code, coded};
-ghost use Rattle.expression.specs.Outcome.{token, refused};
-ghost use Rattle.expression.specs.Steps.{parseChain, parseOperand, bracketAt, named, compiledFrom, compiled, Agrees};
+ghost use Rattle.grammar.specs.Tree.{or, and, code, coded};
+ghost use Rattle.grammar.specs.Outcome.{token, refused};
+ghost use Rattle.grammar.specs.Steps.{parseChain, parseOperand, bracketAt, named, compiledFrom, compiled, Agrees};
+use grammar::Compiled;
+use grammar::Got;
+use grammar::Verdict;
 
 // Token numbers; the operators' words are the same numbers.
 const AND: u32 = 32;
@@ -29,25 +32,6 @@ const UNKNOWN: u32 = 37;
 const DEPTH: usize = 8;
 
 const MOST: usize = lexer::MOST;
-
-pub enum Verdict {
-    Good,
-    Broken,
-    Unknown,
-}
-
-// The first `count` words are the code; after a refusal there are none.
-pub struct Compiled {
-    pub verdict: Verdict,
-    pub count: usize,
-    pub words: [u32; MOST],
-}
-
-// What a reader answers: the next token's place and the next word's, or that nothing that it reads stands there.
-enum Got {
-    At(usize, usize),
-    Fault,
-}
 
 // Operands parted by OR.
 fn read_or(toks: &[u32], at: usize, depth: usize, out: &mut [u32], n: usize) -> Got

@@ -5,7 +5,7 @@
 // have: see the functions below. \n, \r, \t, \\ and \xNN are bytes that a line cannot hold.
 ghost use Prim.Native.Nat.{_≤_, _<_};
 ghost use lib.ListN.{length};
-use expression::Verdict;
+use grammar::Verdict;
 
 const STDIN: i32 = 0;
 

@@ -17,15 +17,15 @@ use Rattle.code_laws.proofs.Heights.{Below, Pushes, pushes-known, words-run}
 use Rattle.code_laws.proofs.Sound.{code-sound, sound-code}
 use Rattle.lexer.specs.Lex.{Token, numberOf, namesIn}
 use Rattle.lexer.proofs.Names.{Fine, fine, few-names}
-use Rattle.expression.specs.Tree.{Tok, word, AND, OR, NOT, open′, close′, Level, Chain, only, join, Operand, chain, name, negate, bracket, Expression, mark, print, printed, mean, code, coded, joiner}
-use Rattle.expression.specs.Tree as tree
-use Rattle.expression.specs.Outcome.{token, Reads, Named, filled, Gives, breaks, unnamed, compiles}
-use Rattle.expression.specs.Steps.{compiled}
-use Rattle.expression.specs.declared.Compiled.{Compiled}
-use Rattle.expression.specs.declared.Verdict.the-variants.{Good}
-use Rattle.expression.proofs.Laws.{back, back-token}
-use Rattle.expression.proofs.Machine.{nineteen, few-words}
-use Rattle.expression.proofs.Ruled.{isGood, gives}
+use Rattle.grammar.specs.Tree.{Tok, word, AND, OR, NOT, open′, close′, Level, Chain, only, join, Operand, chain, name, negate, bracket, Expression, mark, print, printed, mean, code, coded, joiner}
+use Rattle.grammar.specs.Tree as tree
+use Rattle.grammar.specs.Outcome.{token, Reads, Named, filled, Gives, breaks, unnamed, compiles}
+use Rattle.grammar.specs.Steps.{compiled}
+use Rattle.grammar.specs.declared.Compiled.{Compiled}
+use Rattle.grammar.specs.declared.Verdict.the-variants.{Good}
+use Rattle.grammar.proofs.Laws.{back, back-token}
+use Rattle.grammar.proofs.Machine.{nineteen, few-words}
+use Rattle.grammar.proofs.Ruled.{isGood, gives}
 
 -- every word is one of t triggers
 abbrev Under : ℕ → List Tok → Type 0

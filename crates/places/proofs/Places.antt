@@ -22,10 +22,10 @@ use Rattle.loader.specs.Plan.{Plan, row, wordsOf, all, statementIn, inRange}
 use Rattle.loader.proofs.Laws.{and-left, and-right}
 use Rattle.loader.proofs.Records.{cause-long}
 use Rattle.schema.specs.Schema.{any, oneOf, under, rulesOf}
-use Rattle.expression.specs.declared.Verdict.{Verdict}
-use Rattle.expression.specs.declared.Verdict.the-variants as verdicts
-use Rattle.expression.specs.declared.Compiled.{Compiled}
-use Rattle.expression.specs.Outcome.{refusal}
+use Rattle.grammar.specs.declared.Verdict.{Verdict}
+use Rattle.grammar.specs.declared.Verdict.the-variants as verdicts
+use Rattle.grammar.specs.declared.Compiled.{Compiled}
+use Rattle.grammar.specs.Outcome.{refusal}
 use Rattle.element.specs.Element.{Known, Fault, _at_if_, worthBy, isBad, isNotCarried, textOf, tooMany, misfit, crossed, misworded, ownFaults}
 use Rattle.reading.specs.Reading.{is}
 use Rattle.document.specs.Document.{gathered, known, placeOf, lacks, elementFaults}

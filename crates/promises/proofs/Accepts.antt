@@ -15,9 +15,9 @@ use Rattle.xml.specs.Shape.{Node}
 use Rattle.values.specs.declared.Number.{Number}
 use Rattle.values.specs.declared.Number.the-variants.{Value, Nothing}
 use Rattle.values.specs.Values.{digit, digitsFrom, digits, number, all}
-use Rattle.expression.specs.declared.Compiled.{Compiled}
-use Rattle.expression.specs.Steps.{compiled}
-use Rattle.expression.proofs.Ruled.{gives, gives-once}
+use Rattle.grammar.specs.declared.Compiled.{Compiled}
+use Rattle.grammar.specs.Steps.{compiled}
+use Rattle.grammar.proofs.Ruled.{gives, gives-once}
 use Rattle.element.specs.Element.{Fault, _at_if_}
 use Rattle.document.specs.Document.{known, elementFaults}
 use Rattle.document.proofs.Few.{append-none}

@@ -15,9 +15,9 @@ use Rattle.loader.specs.declared.Loaded.{Loaded}
 use Rattle.loader.specs.Plan.{PlanOf, Loads, all, statementIn}
 use Rattle.loader.specs.Plan as loader
 use Rattle.loader.proofs.Laws.{and-left, and-right}
-use Rattle.expression.specs.declared.Compiled.{Compiled}
-use Rattle.expression.specs.Tree.{Expression, mean}
-use Rattle.expression.proofs.Ruled.{only-tree}
+use Rattle.grammar.specs.declared.Compiled.{Compiled}
+use Rattle.grammar.specs.Tree.{Expression, mean}
+use Rattle.grammar.proofs.Ruled.{only-tree}
 use Rattle.expression_laws.proofs.Loads.{Compiles}
 use Rattle.element.specs.Element.{Known}
 use Rattle.reading.specs.Reading.{is}

@@ -8,10 +8,10 @@ use Rattle.values.specs.Values.{digit, digitsFrom, digits, number}
 use Rattle.code.specs.Code.{wordOf}
 use Rattle.lexer.specs.Lex.{find, numberOf}
 use Rattle.lexer.specs.Steps.{lex, numbers}
-use Rattle.expression.specs.Tree.{code}
-use Rattle.expression.specs.Outcome.{token, refusal}
-use Rattle.expression.specs.Steps.{readChain, parseChain, named, compiledFrom, compiled}
-use Rattle.expression.proofs.Ruled.{gives}
+use Rattle.grammar.specs.Tree.{code}
+use Rattle.grammar.specs.Outcome.{token, refusal}
+use Rattle.grammar.specs.Steps.{readChain, parseChain, named, compiledFrom, compiled}
+use Rattle.grammar.proofs.Ruled.{gives}
 use Rattle.rules.specs.Rules.{matches, filtersOn, firstMatch, passes, fires, states, firings}
 use Rattle.promises.specs.Promises.{Every}
 use Rattle.promises.specs.Checks.{abc, Holds, table}

@@ -10,8 +10,8 @@ use Rattle.ascii.specs.Texts.{bytes}
 use Rattle.values.specs.declared.Number.{Number}
 use Rattle.values.specs.declared.Number.the-variants.{Value, Nothing}
 use Rattle.values.specs.Values.{number}
-use Rattle.expression.specs.declared.Compiled.{Compiled}
-use Rattle.expression.specs.Outcome.{Gives, refusal}
+use Rattle.grammar.specs.declared.Compiled.{Compiled}
+use Rattle.grammar.specs.Outcome.{Gives, refusal}
 use Rattle.records.specs.declared.Cause.the-variants.{Id}
 use Rattle.records.specs.declared.Timeout.the-variants.{Ms}
 use Rattle.records.specs.declared.Trigger.{Trigger}

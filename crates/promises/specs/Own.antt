@@ -6,8 +6,8 @@ use mathlib.Core.Bool.{Bool, false}
 use lib.ListN.{length, getD}
 use Rattle.xml.specs.Shape.{Node}
 use Rattle.code.specs.declared.Value.the-variants.{Is}
-use Rattle.expression.specs.Tree.{Expression, mean}
-use Rattle.expression.specs.Outcome.{Reads}
+use Rattle.grammar.specs.Tree.{Expression, mean}
+use Rattle.grammar.specs.Outcome.{Reads}
 use Rattle.document.specs.Document.{known}
 use Rattle.tables.specs.Tables.{Line, Tables, tablesOf}
 use Rattle.rules.specs.Rules.{Statement, Config}

@@ -17,7 +17,7 @@ use Rattle.code.specs.Code.{Runs}
 use Rattle.loader.specs.declared.Loaded.{Loaded}
 use Rattle.loader.specs.Plan.{PlanOf, Loads}
 use Rattle.loader.specs.Plan as loader
-use Rattle.expression.specs.declared.Compiled.{Compiled}
+use Rattle.grammar.specs.declared.Compiled.{Compiled}
 use Rattle.element.specs.Element.{Fault}
 use Rattle.document.specs.Document.{known, elementFaults}
 use Rattle.tables.specs.Tables.{tableFaults}

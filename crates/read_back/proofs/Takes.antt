@@ -19,12 +19,12 @@ use Rattle.loader.specs.declared.Loaded.{Loaded}
 use Rattle.loader.specs.declared.Loaded.the-variants.{Taken}
 use Rattle.loader.specs.Plan.{Plan, all, statementIn, inRange, PlanOf, Loads, layoutOf}
 use Rattle.loader.proofs.Exact.{loads-once, one-plan}
-use Rattle.expression.specs.declared.Verdict.{Verdict}
-use Rattle.expression.specs.declared.Verdict.the-variants.{Good, Broken, Unknown}
-use Rattle.expression.specs.declared.Compiled.{Compiled}
-use Rattle.expression.specs.Outcome.{Gives, refusal}
-use Rattle.expression.specs.Steps.{compiled}
-use Rattle.expression.proofs.Ruled.{gives, gives-once, fits}
+use Rattle.grammar.specs.declared.Verdict.{Verdict}
+use Rattle.grammar.specs.declared.Verdict.the-variants.{Good, Broken, Unknown}
+use Rattle.grammar.specs.declared.Compiled.{Compiled}
+use Rattle.grammar.specs.Outcome.{Gives, refusal}
+use Rattle.grammar.specs.Steps.{compiled}
+use Rattle.grammar.proofs.Ruled.{gives, gives-once, fits}
 use Rattle.expression_laws.proofs.Loads.{Compiles, good}
 use Rattle.schema.specs.declared.Times.the-variants.{OneTo}
 use Rattle.schema.specs.Schema.{any, oneOf, under, parentIn, parents}

@@ -21,8 +21,8 @@ use native.Mathlib.Omega.{arith}
 use mathlib.Core.Path.{_≡_, refl, _∙_}
 use lib.ListN.{length, length-set}
 use Rattle.code.specs.Code.{wordOf}
-use Rattle.expression.specs.Tree as tree
-use Rattle.expression.proofs.Laws.{took, as-operand, More, more-none, more-one, chain-ends, chain-over, chain-breaks, no-chain, no-operand, and-first, or-first, close-first, a-word, not-operand, not-nothing, in-brackets, too-deep, nothing-inside, closes, not-closed, never-closed}
+use Rattle.grammar.specs.Tree as tree
+use Rattle.grammar.proofs.Laws.{took, as-operand, More, more-none, more-one, chain-ends, chain-over, chain-breaks, no-chain, no-operand, and-first, or-first, close-first, a-word, not-operand, not-nothing, in-brackets, too-deep, nothing-inside, closes, not-closed, never-closed}
 use borrow.Author.Needs.{needs}
 
 abbrev μ-read-and : Measures 2 read-and-kinds.ps ℕ

@@ -5,8 +5,8 @@ use Prim.Native.Nat.{_-_, _≤_}
 use native.Mathlib.Omega.{arith}
 use mathlib.Core.Path.{_≡_, refl, sym, _∙_}
 use lib.ListN.{length, drop}
-use Rattle.expression.specs.Steps.{named}
-use Rattle.expression.proofs.Whole.{named-next, named-none, named-over}
+use Rattle.grammar.specs.Steps.{named}
+use Rattle.grammar.proofs.Whole.{named-next, named-none, named-over}
 use borrow.Author.Needs.{needs}
 
 abbrev Inv-loop : tie.InvT-loop

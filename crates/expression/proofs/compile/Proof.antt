@@ -6,7 +6,7 @@ use native.Mathlib.Omega.{arith}
 use mathlib.Core.Path.{sym, _∙_}
 use borrow.Author.Tests.{not-true, not-false}
 use lib.ListN.{length-take}
-use Rattle.expression.proofs.Whole.{unfit-text, fit-text}
+use Rattle.grammar.proofs.Whole.{unfit-text, fit-text}
 
 tokenise-requires : tie.Need-tokenise-requires
 tokenise-requires c κs = search needs

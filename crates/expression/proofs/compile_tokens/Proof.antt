@@ -4,7 +4,7 @@ use Rattle.expression.proofs.compile_tokens.Statement.{statement}
 use Rattle.expression.proofs.compile_tokens.Tie as tie
 use mathlib.Core.Path.{sym, _∙_}
 use borrow.Author.Tests.{not-true, not-false}
-use Rattle.expression.proofs.Whole.{no-expression, left-over, some-unnamed, all-named}
+use Rattle.grammar.proofs.Whole.{no-expression, left-over, some-unnamed, all-named}
 
 slice-aggregate-read-or : tie.Need-slice-aggregate-read-or
 slice-aggregate-read-or c = search needs

@@ -4,7 +4,7 @@ use Rattle.expression_cases.proofs.case.Statement.{statement}
 use Rattle.expression_cases.proofs.case.Tie as tie
 use native.Mathlib.Omega.{arith}
 use lib.ListN.{length-take}
-use Rattle.expression.proofs.Ruled.{fits}
+use Rattle.grammar.proofs.Ruled.{fits}
 
 compile-requires : tie.Need-compile-requires
 compile-requires c κs = search needs

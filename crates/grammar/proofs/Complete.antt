@@ -4,10 +4,10 @@ use native.Mathlib.Omega.{arith}
 use mathlib.Core.Path.{_≡_, refl, sym, ap, _∙_}
 use mathlib.Core.Bool.{false}
 use mathlib.Core.List.{List, [], _∷_, _++_, append-assoc, append-nil}
-use Rattle.expression.specs.Tree.{Tok, close′, Level, or, and, Chain, only, join, Operand, chain, name, negate, bracket, Expression, mark, print, printed, depth, deep}
-use Rattle.expression.specs.Steps.{got, then′, isMark, parseChain, parseMore, parseOperand}
-use Rattle.expression.proofs.Sound.{Every, Front, sound-chain}
-use Rattle.expression.proofs.Fuel.{parse-chain, parse-more, parse-or, parse-and}
+use Rattle.grammar.specs.Tree.{Tok, close′, Level, or, and, Chain, only, join, Operand, chain, name, negate, bracket, Expression, mark, print, printed, depth, deep}
+use Rattle.grammar.specs.Steps.{got, then′, isMark, parseChain, parseMore, parseOperand}
+use Rattle.grammar.proofs.Sound.{Every, Front, sound-chain}
+use Rattle.grammar.proofs.Fuel.{parse-chain, parse-more, parse-or, parse-and}
 
 -- no operator of level b stands at the front
 abbrev Clear : Level → List Tok → Type 0

@@ -5,9 +5,9 @@ use mathlib.Core.Path.{_≡_, refl, ap, _∙_}
 use mathlib.Core.Bool.{cond}
 use mathlib.Core.List.{List, [], _∷_}
 use lib.ListN.{length, length-append}
-use Rattle.expression.specs.Tree.{Tok, word, AND, OR, NOT, open′, close′, Level, or, and, Chain, only, join, Operand, chain, negate, Expression, printed, deep}
-use Rattle.expression.specs.Steps.{Res, got, fault, then′, isMark, onward, closed, operandAt, readChain, readMore, readOperand, top, parseChain, parseMore, parseOperand}
-use Rattle.expression.proofs.Sound.{Every, Front, sound-operand}
+use Rattle.grammar.specs.Tree.{Tok, word, AND, OR, NOT, open′, close′, Level, or, and, Chain, only, join, Operand, chain, negate, Expression, printed, deep}
+use Rattle.grammar.specs.Steps.{Res, got, fault, then′, isMark, onward, closed, operandAt, readChain, readMore, readOperand, top, parseChain, parseMore, parseOperand}
+use Rattle.grammar.proofs.Sound.{Every, Front, sound-operand}
 
 top-low : (b : Level) → top b ≤ 3
 top-low or = omega arith

@@ -12,13 +12,13 @@ use borrow.Author.Tests.{eqb-true, ne-eqb}
 use Rattle.ascii.proofs.Cases.{by-cases}
 use Rattle.ascii.proofs.Spans.{drop-one}
 use Rattle.code.specs.Code.{Op, push, invert, wordOf}
-use Rattle.expression.specs.Tree.{Tok, word, AND, OR, NOT, open′, close′, Level, or, and, Chain, only, join, chain, name, negate, bracket, Expression, mark, code, coded, joiner}
-use Rattle.expression.specs.Outcome.{token}
-use Rattle.expression.specs.Steps.{Res, got, fault, then′, isMark, closed, bracketAt, operandAt, parseChain, parseMore, parseOperand, Written, Agrees, read, failed}
-use Rattle.expression.specs.declared.Got.{Got}
-use Rattle.expression.specs.declared.Got.the-variants.{At, Fault}
-use Rattle.expression.proofs.Sound.{mark-is}
-use Rattle.expression.proofs.Fuel.{parse-chain, parse-more, parse-or, parse-and}
+use Rattle.grammar.specs.Tree.{Tok, word, AND, OR, NOT, open′, close′, Level, or, and, Chain, only, join, chain, name, negate, bracket, Expression, mark, code, coded, joiner}
+use Rattle.grammar.specs.Outcome.{token}
+use Rattle.grammar.specs.Steps.{Res, got, fault, then′, isMark, closed, bracketAt, operandAt, parseChain, parseMore, parseOperand, Written, Agrees, read, failed}
+use Rattle.grammar.specs.declared.Got.{Got}
+use Rattle.grammar.specs.declared.Got.the-variants.{At, Fault}
+use Rattle.grammar.proofs.Sound.{mark-is}
+use Rattle.grammar.proofs.Fuel.{parse-chain, parse-more, parse-or, parse-and}
 
 -- the number that a token is of
 abbrev pub back : Tok → ℕ

@@ -15,14 +15,14 @@ use Rattle.code.specs.Code.{wordOf}
 use Rattle.lexer.specs.Lex.{laid}
 use Rattle.lexer.specs.Steps.{numbers, lexed}
 use Rattle.lexer.specs.declared.Lexed.{Lexed}
-use Rattle.expression.specs.Tree.{or, Expression, code}
-use Rattle.expression.specs.Outcome.{token, refused}
-use Rattle.expression.specs.Steps.{Res, parseChain, whole, named, judged, compiledFrom, ifAny, compiled, Agrees}
-use Rattle.expression.specs.declared.Got.{Got}
-use Rattle.expression.specs.declared.Got.the-variants.{At, Fault}
-use Rattle.expression.specs.declared.Compiled.{Compiled}
-use Rattle.expression.specs.declared.Verdict.the-variants.{Good, Broken, Unknown}
-use Rattle.expression.proofs.Laws.{tokens-at, tokens-end, took, faulty}
+use Rattle.grammar.specs.Tree.{or, Expression, code}
+use Rattle.grammar.specs.Outcome.{token, refused}
+use Rattle.grammar.specs.Steps.{Res, parseChain, whole, named, judged, compiledFrom, ifAny, compiled, Agrees}
+use Rattle.grammar.specs.declared.Got.{Got}
+use Rattle.grammar.specs.declared.Got.the-variants.{At, Fault}
+use Rattle.grammar.specs.declared.Compiled.{Compiled}
+use Rattle.grammar.specs.declared.Verdict.the-variants.{Good, Broken, Unknown}
+use Rattle.grammar.proofs.Laws.{tokens-at, tokens-end, took, faulty}
 
 -- are all words named
 module _ (ts : List ℕ) (i : ℕ) where

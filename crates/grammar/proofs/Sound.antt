@@ -4,8 +4,8 @@ use native.Mathlib.Omega.{arith}
 use mathlib.Core.Path.{_≡_, refl, sym, ap, _∙_}
 use mathlib.Core.Bool.{Bool, true, false, cond, false≢true}
 use mathlib.Core.List.{List, [], _∷_, _++_, append-assoc}
-use Rattle.expression.specs.Tree.{Tok, word, AND, OR, NOT, open′, close′, Level, or, and, Chain, only, join, Expression, mark, print, printed, depth, deep}
-use Rattle.expression.specs.Steps.{Res, got, fault, then′, isMark, onward, closed, readChain, readMore, readOperand}
+use Rattle.grammar.specs.Tree.{Tok, word, AND, OR, NOT, open′, close′, Level, or, and, Chain, only, join, Expression, mark, print, printed, depth, deep}
+use Rattle.grammar.specs.Steps.{Res, got, fault, then′, isMark, onward, closed, readChain, readMore, readOperand}
 
 -- P holds of what was read, if anything was
 abbrev pub Every : {A : Type 0} → (A → List Tok → Type 0) → Res A → Type 0

@@ -10,9 +10,9 @@ use Rattle.letters.specs.Kinds.{isBlank, isStart, isDigit, isName}
 use Rattle.code.specs.Code.{wordOf}
 use Rattle.lexer.specs.Lex.{find, numberOf}
 use Rattle.lexer.specs.Steps.{lex, numbers}
-use Rattle.expression.specs.Tree.{code}
-use Rattle.expression.specs.Outcome.{token, refusal}
-use Rattle.expression.specs.Steps.{readChain, parseChain, named, compiledFrom, compiled}
+use Rattle.grammar.specs.Tree.{code}
+use Rattle.grammar.specs.Outcome.{token, refusal}
+use Rattle.grammar.specs.Steps.{readChain, parseChain, named, compiledFrom, compiled}
 
 -- a text, its refusal if it has one, and its words
 pub record Check : Type 0 where

@@ -14,15 +14,15 @@ use Rattle.code.specs.Code.{wordOf}
 use Rattle.lexer.specs.Lex.{Token, numberOf}
 use Rattle.lexer.specs.Steps.{lex, mapped, numbers}
 use Rattle.lexer.proofs.Spelled.{spelled}
-use Rattle.expression.specs.Tree.{Tok, or, Expression, print, depth, code}
-use Rattle.expression.specs.Outcome.{token, Rules, Reads, Named, filled, Gives, breaks, unnamed, compiles}
-use Rattle.expression.specs.Steps.{Res, got, fault, parseChain, whole, named, judged, compiledFrom, ifAny, compiled}
-use Rattle.expression.specs.declared.Compiled.{Compiled}
-use Rattle.expression.specs.declared.Verdict.{Verdict}
-use Rattle.expression.specs.declared.Verdict.the-variants.{Good, Broken, Unknown}
-use Rattle.expression.proofs.Sound.{Every, Front}
-use Rattle.expression.proofs.Complete.{complete, unambiguous, sound}
-use Rattle.expression.proofs.Machine.{few-words}
+use Rattle.grammar.specs.Tree.{Tok, or, Expression, print, depth, code}
+use Rattle.grammar.specs.Outcome.{token, Rules, Reads, Named, filled, Gives, breaks, unnamed, compiles}
+use Rattle.grammar.specs.Steps.{Res, got, fault, parseChain, whole, named, judged, compiledFrom, ifAny, compiled}
+use Rattle.grammar.specs.declared.Compiled.{Compiled}
+use Rattle.grammar.specs.declared.Verdict.{Verdict}
+use Rattle.grammar.specs.declared.Verdict.the-variants.{Good, Broken, Unknown}
+use Rattle.grammar.proofs.Sound.{Every, Front}
+use Rattle.grammar.proofs.Complete.{complete, unambiguous, sound}
+use Rattle.grammar.proofs.Machine.{few-words}
 
 abbrev pub isGood : Verdict → Bool
 isGood Good = true

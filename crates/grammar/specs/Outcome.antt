@@ -8,10 +8,10 @@ use lib.ListN.{length, replicate}
 use lib.Dec.{eqb}
 use Rattle.code.specs.Code.{wordOf}
 use Rattle.lexer.specs.Lex.{Token, Spells, numberOf}
-use Rattle.expression.specs.Tree.{Tok, word, AND, OR, NOT, open′, close′, Expression, print, depth, code}
-use Rattle.expression.specs.declared.Verdict.{Verdict}
-use Rattle.expression.specs.declared.Verdict.the-variants.{Good, Broken, Unknown}
-use Rattle.expression.specs.declared.Compiled.{Compiled}
+use Rattle.grammar.specs.Tree.{Tok, word, AND, OR, NOT, open′, close′, Expression, print, depth, code}
+use Rattle.grammar.specs.declared.Verdict.{Verdict}
+use Rattle.grammar.specs.declared.Verdict.the-variants.{Good, Broken, Unknown}
+use Rattle.grammar.specs.declared.Compiled.{Compiled}
 
 -- a token by its number
 unfoldable pub token : ℕ → Tok

@@ -8,12 +8,12 @@ use lib.ListN.{length, take, drop}
 use lib.Dec.{leb, ltb}
 use Rattle.code.specs.Code.{Op, wordOf}
 use Rattle.lexer.specs.Steps.{numbers}
-use Rattle.expression.specs.Tree.{Tok, word, AND, OR, NOT, open′, close′, Level, or, and, Chain, only, join, Operand, chain, name, negate, bracket, Expression, code}
-use Rattle.expression.specs.Outcome.{token, refused, filled}
-use Rattle.expression.specs.declared.Got.{Got}
-use Rattle.expression.specs.declared.Got.the-variants.{At, Fault}
-use Rattle.expression.specs.declared.Verdict.the-variants.{Broken, Unknown}
-use Rattle.expression.specs.declared.Compiled.{Compiled}
+use Rattle.grammar.specs.Tree.{Tok, word, AND, OR, NOT, open′, close′, Level, or, and, Chain, only, join, Operand, chain, name, negate, bracket, Expression, code}
+use Rattle.grammar.specs.Outcome.{token, refused, filled}
+use Rattle.grammar.specs.declared.Got.{Got}
+use Rattle.grammar.specs.declared.Got.the-variants.{At, Fault}
+use Rattle.grammar.specs.declared.Verdict.the-variants.{Broken, Unknown}
+use Rattle.grammar.specs.declared.Compiled.{Compiled}
 
 -- what a reader answers: what it read and the tokens behind it, or that nothing it reads stands there
 pub data Res (A : Type 0) : Type 0 where

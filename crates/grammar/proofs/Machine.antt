@@ -7,7 +7,7 @@ use mathlib.Core.Option.{none, some}
 use mathlib.Core.List.{List, [], _∷_, _++_, append-assoc, append-nil}
 use lib.ListN.{length, length-append}
 use borrow.Author.Tests.{lt-ltb}
-use Rattle.expression.specs.Tree.{Level, or, and, Chain, only, join, Operand, chain, name, negate, bracket, Expression, print, printed, depth, deep, mean, means, joins, code, coded, joiner}
+use Rattle.grammar.specs.Tree.{Level, or, and, Chain, only, join, Operand, chain, name, negate, bracket, Expression, print, printed, depth, deep, mean, means, joins, code, coded, joiner}
 use Rattle.code.specs.Code.{Op, invert, step, run}
 
 -- values that a chain may lay on the stack besides two for each depth
