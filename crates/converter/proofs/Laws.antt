@@ -14,9 +14,9 @@ use Rattle.grammar.specs.declared.Compiled.{Compiled}
 use Rattle.grammar.specs.Steps.{compiled}
 use Rattle.grammar.proofs.Ruled.{gives}
 use Rattle.element.specs.Element.{Known, Fault, _at_if_}
-use Rattle.document.specs.declared.Index.{Index}
-use Rattle.document.specs.Document.{known, elementFaults}
-use Rattle.document.specs.Steps.{refusal, indexOf, Indexes}
+use Rattle.document_rules.specs.declared.Index.{Index}
+use Rattle.document_rules.specs.Document.{known, elementFaults}
+use Rattle.document_rules.specs.Steps.{refusal, indexOf, Indexes}
 use Rattle.writer.specs.declared.Sheet.{Sheet}
 use Rattle.writer.specs.declared.Written.{Written}
 use Rattle.writer.specs.declared.Written.the-variants.{Words, Short}

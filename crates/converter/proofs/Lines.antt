@@ -22,7 +22,7 @@ use Rattle.grammar.specs.Steps.{compiled}
 use Rattle.element.specs.Element.{Known, Fault, textOf}
 use Rattle.element.specs.Steps.{shortText}
 use Rattle.reading.specs.Reading.{is, busOf, actionOf}
-use Rattle.document.specs.Document.{gathered, known}
+use Rattle.document_rules.specs.Document.{gathered, known}
 use Rattle.writer.specs.declared.Line.{Line}
 use Rattle.writer.specs.declared.Lines.{Lines}
 use Rattle.writer.specs.Sheet.{lineWords, sheetWords}

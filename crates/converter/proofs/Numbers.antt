@@ -14,7 +14,7 @@ use Rattle.element.specs.Element.{Known, Fault, _at_if_, ownFaults}
 use Rattle.element.specs.Steps.{firstNumber}
 use Rattle.element_laws.proofs.Laws.{no-fault}
 use Rattle.reading.specs.Reading.{is}
-use Rattle.document.specs.Document.{gathered, known, placeOf, lacks, elementFaults}
+use Rattle.document_rules.specs.Document.{gathered, known, placeOf, lacks, elementFaults}
 use Rattle.tables.specs.Tables.{kept, isIn, nameOf, usedNames, gap, channelNamed, channelsIn, tableFaults}
 
 abbrev Positive : List Fault → Type 0

@@ -14,7 +14,7 @@ use Rattle.grammar.specs.declared.Compiled.{Compiled}
 use Rattle.grammar.specs.Outcome.{Gives, refusal}
 use Rattle.element.specs.Element.{Known, Fault, _at_if_, textOf}
 use Rattle.reading.specs.Reading.{is}
-use Rattle.document.specs.Document.{gathered, known, elementFaults}
+use Rattle.document_rules.specs.Document.{gathered, known, elementFaults}
 use Rattle.tables.specs.Tables.{kept, expressionsOf, Line, Tables, tablesOf, tableFaults}
 use Rattle.converter.specs.declared.Converted.{Converted}
 use Rattle.converter.specs.declared.Converted.the-variants.{Words, Refused}

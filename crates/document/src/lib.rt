@@ -12,46 +12,17 @@ ghost use Rattle.xml.specs.Shape.{Shaped};
 ghost use Rattle.walk.specs.Steps.{contentAt, skipped};
 ghost use Rattle.element.specs.Steps.{lacksFirst, worded};
 ghost use Rattle.schema.specs.Steps.{isCarried};
-ghost use Rattle.document.specs.Steps.{refusal, enteredFound, refusedFound, noneSeen, oneMore, marked, isOver, lacksSome, closed, childAt, isBarred, looked, faultAt, tagFaultAt, visitBody, visitFrom, indexAt, noneFound, indexed, Indexes, kindNumber, kindOf, entryFrom, entriesFrom, found, Ready, VisitedIs, InsideIs};
+ghost use Rattle.document_rules.specs.Steps.{refusal, enteredFound, refusedFound, noneSeen, oneMore, marked, isOver, lacksSome, closed, childAt, isBarred, looked, faultAt, tagFaultAt, visitBody, visitFrom, indexAt, noneFound, indexed, Indexes, kindNumber, kindOf, entryFrom, entriesFrom, found, Ready, VisitedIs, InsideIs};
+use document_rules::Entry;
+use document_rules::Index;
+use document_rules::Inside;
+use document_rules::Seen;
+use document_rules::Walk;
 use schema::Kind;
 use schema::Times;
 use walk::Body;
 use walk::Item;
 use xml::Shape;
-
-pub struct Entry {
-    pub kind: Kind,
-    pub place: usize,
-}
-
-// The known elements in file order, or the first fault and its place (then there are no entries).
-pub struct Index {
-    pub number: u32,
-    pub place: usize,
-    pub count: usize,
-    pub entries: [Entry; 382],
-}
-
-// The walk so far: where it stands, the first fault and its place (0 if there is none yet), how many entries are marked, and whether a required element lacks.
-struct Walk {
-    at: usize,
-    number: u32,
-    place: usize,
-    count: usize,
-    lacking: bool,
-}
-
-// The walk behind an element, and whether text that is no blank stands in the element.
-struct Inside {
-    walk: Walk,
-    stray: bool,
-}
-
-// What an element holds so far: how many (counted up to 64), and which of those that it holds once.
-struct Seen {
-    count: usize,
-    names: [bool; 5],
-}
 
 fn is_carried(kind: Kind) -> bool
     ensures { λ r. ⌜ r ≡ isCarried kind ⌝ }

@@ -24,7 +24,7 @@ use Rattle.element.specs.Element.{Known, Fault, _at_if_, isBad, isNotCarried, w
 use Rattle.element.specs.Steps.{nothing, gathered, gatheredList, is, lacksFirst, unpaired, lacking, boundsCrossed, numbered, badText, verdict, ownFault, firstNumber, valueAt}
 use Rattle.element_laws.proofs.Gathers.{rulesFor, slotOf, neither, five-is, bad-is, not-carried-is}
 use Rattle.element_laws.proofs.Forms.{of, Fit, lacksIn, form-of, odd-is, crossed-is, lack-is, value-at, given-at}
-use Rattle.picking.proofs.Texts.{short-law, stray-law}
+use Rattle.element.proofs.Texts.{short-law, stray-law}
 use Rattle.element_laws.proofs.Tags.{gathers, spells}
 
 few : (kind : Kind) → length (rulesFor kind) ≤ 12

@@ -28,8 +28,8 @@ use Rattle.grammar.specs.declared.Compiled.{Compiled}
 use Rattle.grammar.specs.Outcome.{refusal}
 use Rattle.element.specs.Element.{Known, Fault, _at_if_, worthBy, isBad, isNotCarried, textOf, tooMany, misfit, crossed, misworded, ownFaults}
 use Rattle.reading.specs.Reading.{is}
-use Rattle.document.specs.Document.{gathered, known, placeOf, lacks, elementFaults}
-use Rattle.document.proofs.Stood.{Stood, All, all-stood}
+use Rattle.document_rules.specs.Document.{gathered, known, placeOf, lacks, elementFaults}
+use Rattle.document_rules.proofs.Stood.{Stood, All, all-stood}
 use Rattle.tables.specs.Tables.{kept, isIn, within, nameOf, expressionsOf, tablesOf, usedNames, gap, channelNamed, channelsIn, tableFaults}
 use Rattle.table_laws.proofs.Nested.{nested-known, all-mapped, all-within, all-kept}
 use Rattle.converter.specs.declared.Converted.the-variants.{Words, Refused}

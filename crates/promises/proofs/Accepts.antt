@@ -19,8 +19,8 @@ use Rattle.grammar.specs.declared.Compiled.{Compiled}
 use Rattle.grammar.specs.Steps.{compiled}
 use Rattle.grammar.proofs.Ruled.{gives, gives-once}
 use Rattle.element.specs.Element.{Fault, _at_if_}
-use Rattle.document.specs.Document.{known, elementFaults}
-use Rattle.document.proofs.Few.{append-none}
+use Rattle.document_rules.specs.Document.{known, elementFaults}
+use Rattle.document_rules.proofs.Few.{append-none}
 use Rattle.tables.specs.Tables.{tablesOf, tableFaults}
 use Rattle.converter.specs.declared.Converted.the-variants.{Words, Refused}
 use Rattle.converter.specs.Converter.{GivesAll, wordsFor, expressionFaults, faults, Converts}

@@ -21,8 +21,8 @@ use Rattle.grammar.proofs.Ruled.{only-tree}
 use Rattle.expression_laws.proofs.Loads.{Compiles}
 use Rattle.element.specs.Element.{Known}
 use Rattle.reading.specs.Reading.{is}
-use Rattle.document.specs.Document.{known}
-use Rattle.document.proofs.Stood.{All}
+use Rattle.document_rules.specs.Document.{known}
+use Rattle.document_rules.proofs.Stood.{All}
 use Rattle.tables.specs.Tables.{Line, kept, lineOf, tablesOf}
 use Rattle.converter.specs.declared.Converted.the-variants.{Words}
 use Rattle.converter.specs.Converter as plans

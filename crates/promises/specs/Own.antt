@@ -8,7 +8,7 @@ use Rattle.xml.specs.Shape.{Node}
 use Rattle.code.specs.declared.Value.the-variants.{Is}
 use Rattle.grammar.specs.Tree.{Expression, mean}
 use Rattle.grammar.specs.Outcome.{Reads}
-use Rattle.document.specs.Document.{known}
+use Rattle.document_rules.specs.Document.{known}
 use Rattle.tables.specs.Tables.{Line, Tables, tablesOf}
 use Rattle.rules.specs.Rules.{Statement, Config}
 

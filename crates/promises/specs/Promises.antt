@@ -19,7 +19,7 @@ use Rattle.loader.specs.Plan.{PlanOf, Loads}
 use Rattle.loader.specs.Plan as loader
 use Rattle.grammar.specs.declared.Compiled.{Compiled}
 use Rattle.element.specs.Element.{Fault}
-use Rattle.document.specs.Document.{known, elementFaults}
+use Rattle.document_rules.specs.Document.{known, elementFaults}
 use Rattle.tables.specs.Tables.{tableFaults}
 use Rattle.converter.specs.declared.Converted.{Converted}
 use Rattle.converter.specs.declared.Converted.the-variants.{Words, Refused}

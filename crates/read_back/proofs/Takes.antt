@@ -33,9 +33,9 @@ use Rattle.element.specs.Steps.{firstNumber}
 use Rattle.element_laws.proofs.Laws.{Clean, clean-law}
 use Rattle.element_laws.proofs.Gathers.{neither}
 use Rattle.reading.specs.Reading.{is, busOf, triggerOf, filterOf, actionOf}
-use Rattle.document.specs.Document.{gathered, known, held, lacks, unmet, elementFaults}
-use Rattle.document.proofs.Few.{append-none}
-use Rattle.document.proofs.Stood.{All}
+use Rattle.document_rules.specs.Document.{gathered, known, held, lacks, unmet, elementFaults}
+use Rattle.document_rules.proofs.Few.{append-none}
+use Rattle.document_rules.proofs.Stood.{All}
 use Rattle.tables.specs.Tables.{kept, isIn, within, nameOf, channelsOf, sumFrom, channelNamed, channelsIn, expressionsOf, lineOf, usedNames, gap, tablesOf, tableFaults}
 use Rattle.table_laws.proofs.Wanted.{Formed}
 use Rattle.table_laws.proofs.Nested.{map-twice, nested-in, nested-known, all-within, all-mapped, all-zipped, all-kept, spread, eachName, eachPair}

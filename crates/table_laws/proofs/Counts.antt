@@ -21,9 +21,9 @@ use Rattle.schema.proofs.Every.{everywhere}
 use Rattle.element.specs.Element.{Known, _at_if_, ownFaults}
 use Rattle.element_laws.proofs.Gathers.{neither}
 use Rattle.reading.specs.Reading.{is}
-use Rattle.document.specs.Document.{gathered, counted, held, knownIn, knownAt, known, placeOf, unmet, lacks, elementFaults}
-use Rattle.document.proofs.Few.{left, top, Clean, append-none, clean-parts, clean-first, most, sum, Settled, few-inside, few-known}
-use Rattle.document.proofs.Stood.{All, all-append}
+use Rattle.document_rules.specs.Document.{gathered, counted, held, knownIn, knownAt, known, placeOf, unmet, lacks, elementFaults}
+use Rattle.document_rules.proofs.Few.{left, top, Clean, append-none, clean-parts, clean-first, most, sum, Settled, few-inside, few-known}
+use Rattle.document_rules.proofs.Stood.{All, all-append}
 use Rattle.tables.specs.Tables.{kept, isIn, within, expressionsOf}
 use Rattle.table_laws.proofs.Wanted.{Formed}
 use Rattle.table_laws.proofs.Nested.{kept-append}

@@ -21,14 +21,14 @@ use Rattle.schema.proofs.Laws.{kind-back}
 use Rattle.element.specs.Element.{Known, misfit, valueOf, textOf}
 use Rattle.element.specs.Steps.{firstNumber, shortText}
 use Rattle.element_laws.proofs.Gathers.{neither}
-use Rattle.picking.proofs.Texts.{short-law}
+use Rattle.element.proofs.Texts.{short-law}
 use Rattle.element_laws.proofs.Laws.{clean-law}
 use Rattle.reading.specs.Reading.{is, actionOf}
 use Rattle.reading.specs.Steps as reading
-use Rattle.reading.proofs.Laws.{number-law}
-use Rattle.document.specs.Document.{known}
-use Rattle.document.specs.Steps.{entryOf}
-use Rattle.document.proofs.Stood.{All}
+use Rattle.table_laws.proofs.Readings.{number-law}
+use Rattle.document_rules.specs.Document.{known}
+use Rattle.document_rules.specs.Steps.{entryOf}
+use Rattle.document_rules.proofs.Stood.{All}
 use Rattle.writer.specs.declared.Actions.{Actions}
 use Rattle.telling.specs.declared.Draft.{Draft}
 use Rattle.telling.specs.declared.Drafts.{Drafts}

@@ -16,10 +16,10 @@ use Rattle.schema.proofs.Laws.{kind-back, carried-name, carried-carried}
 use Rattle.element.specs.Element.{Known, _at_if_, ownFaults}
 use Rattle.element.specs.Steps.{firstNumber}
 use Rattle.element_laws.proofs.Laws.{clean-law}
-use Rattle.document.specs.Document.{gathered, counted, knownIn, knownAt, known, placeOf, lacks, elementFaults}
-use Rattle.document.specs.Steps.{noEntry, entryOf, indexOf}
-use Rattle.document.proofs.Few.{Clean, append-none, clean-parts, clean-first}
-use Rattle.document.proofs.Stood.{Stood, All, all-append, all-stood}
+use Rattle.document_rules.specs.Document.{gathered, counted, knownIn, knownAt, known, placeOf, lacks, elementFaults}
+use Rattle.document_rules.specs.Steps.{noEntry, entryOf, indexOf}
+use Rattle.document_rules.proofs.Few.{Clean, append-none, clean-parts, clean-first}
+use Rattle.document_rules.proofs.Stood.{Stood, All, all-append, all-stood}
 use Rattle.telling.specs.Steps.{folded, entriesOf, noHead, noTriggers, noNames, noFilters, noDrafts, tellHead, tellTrigger, tellName, tellFilter, tellDraft, told}
 use Rattle.telling.proofs.Parts.{told-parts}
 use Rattle.table_laws.proofs.Wanted.{Fit}

@@ -17,10 +17,10 @@ use Rattle.element.specs.Steps as element
 use Rattle.element_laws.proofs.Laws.{channel-law}
 use Rattle.reading.specs.Reading.{is}
 use Rattle.reading.specs.Steps as reading
-use Rattle.document.specs.declared.Entry.{Entry}
-use Rattle.document.specs.Document.{gathered}
-use Rattle.document.specs.Steps.{entryOf, indexOf}
-use Rattle.document.proofs.Stood.{All}
+use Rattle.document_rules.specs.declared.Entry.{Entry}
+use Rattle.document_rules.specs.Document.{gathered}
+use Rattle.document_rules.specs.Steps.{entryOf, indexOf}
+use Rattle.document_rules.proofs.Stood.{All}
 use Rattle.telling.specs.declared.Head.{Head}
 use Rattle.telling.specs.Steps.{folded, noNames, tellName, told}
 use Rattle.tables.specs.declared.Refusal.{Refusal}

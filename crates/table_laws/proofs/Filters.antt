@@ -28,10 +28,10 @@ use Rattle.element_laws.proofs.Gathers.{neither}
 use Rattle.element_laws.proofs.Laws.{clean-law, channel-law}
 use Rattle.reading.specs.Reading.{is, filterOf}
 use Rattle.reading.specs.Steps.{filterFrom}
-use Rattle.reading.proofs.Laws.{pass-law, stop-law}
-use Rattle.document.specs.Document.{known}
-use Rattle.document.specs.Steps.{entryOf}
-use Rattle.document.proofs.Stood.{All}
+use Rattle.table_laws.proofs.Readings.{pass-law, stop-law}
+use Rattle.document_rules.specs.Document.{known}
+use Rattle.document_rules.specs.Steps.{entryOf}
+use Rattle.document_rules.proofs.Stood.{All}
 use Rattle.writer.specs.declared.Filters.{Filters}
 use Rattle.telling.specs.Steps.{folded, withChannel, masked, noFilter, noFilters, pushFilter, addChannel, tellFilter}
 use Rattle.tables.specs.Tables.{kept, isIn, within, channelsOf, sumFrom}

@@ -6,9 +6,9 @@ use lib.ListN.{length, take}
 use Rattle.xml.specs.Shape.{Node, WellShaped}
 use Rattle.element.specs.Element.{has}
 use Rattle.reading.specs.Reading.{is, filterOf}
-use Rattle.document.specs.Document.{known, elementFaults}
-use Rattle.document.specs.Steps.{indexOf}
-use Rattle.document.proofs.Stood.{All}
+use Rattle.document_rules.specs.Document.{known, elementFaults}
+use Rattle.document_rules.specs.Steps.{indexOf}
+use Rattle.document_rules.proofs.Stood.{All}
 use Rattle.writer.specs.declared.Triggers.{Triggers}
 use Rattle.writer.specs.declared.Filters.{Filters}
 use Rattle.telling.specs.declared.Head.{Head}

@@ -1,4 +1,5 @@
 -- `Laws` says that what `telling` tells of a file without faults is its document's tables; the others are its parts.
+pub mod Readings
 pub mod Wanted
 pub mod Nested
 pub mod Entries

@@ -15,10 +15,10 @@ use Rattle.xml.specs.Shape.{Node, node, Items}
 use Rattle.loader.proofs.Laws.{and-left, and-right}
 use Rattle.schema.specs.Schema.{Parent, parents, parentIn, any, oneOf, under}
 use Rattle.element.specs.Element.{Known}
-use Rattle.document.specs.declared.Entry.{Entry}
-use Rattle.document.specs.Document.{counted, knownIn, knownAt, known}
-use Rattle.document.specs.Steps.{entryOf}
-use Rattle.document.proofs.Stood.{All, all-append}
+use Rattle.document_rules.specs.declared.Entry.{Entry}
+use Rattle.document_rules.specs.Document.{counted, knownIn, knownAt, known}
+use Rattle.document_rules.specs.Steps.{entryOf}
+use Rattle.document_rules.proofs.Stood.{All, all-append}
 use Rattle.telling.specs.Steps.{folded}
 use Rattle.tables.specs.Tables.{kept, within}
 

@@ -29,11 +29,11 @@ use Rattle.element_laws.proofs.Laws.{Clean, clean-law, spelled-law}
 use Rattle.lexer.specs.Lex.{spans, namesIn}
 use Rattle.reading.specs.Reading.{is, triggerOf}
 use Rattle.reading.specs.Steps as reading
-use Rattle.reading.proofs.Laws.{number-law, id-law, length-law, error-law, startup-law}
-use Rattle.document.specs.declared.Entry.{Entry}
-use Rattle.document.specs.Steps.{entryOf}
-use Rattle.document.proofs.Absorbs.{any-append}
-use Rattle.document.proofs.Stood.{All}
+use Rattle.table_laws.proofs.Readings.{number-law, id-law, length-law, error-law, startup-law}
+use Rattle.document_rules.specs.declared.Entry.{Entry}
+use Rattle.document_rules.specs.Steps.{entryOf}
+use Rattle.document_rules.proofs.Absorbs.{any-append}
+use Rattle.document_rules.proofs.Stood.{All}
 use Rattle.writer.specs.declared.Triggers.{Triggers}
 use Rattle.telling.specs.declared.Names.{Names}
 use Rattle.telling.specs.declared.Head.{Head}

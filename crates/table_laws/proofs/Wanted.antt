@@ -10,9 +10,9 @@ use Rattle.schema.specs.Steps as schema
 use Rattle.element.specs.Element.{Known, Fault, ownFaults, valueOf, textOf}
 use Rattle.element.specs.Steps.{shortText}
 use Rattle.reading.specs.Reading.{is, actionOf}
-use Rattle.document.specs.Document.{known}
-use Rattle.document.specs.Steps.{indexOf}
-use Rattle.document.proofs.Stood.{Stood}
+use Rattle.document_rules.specs.Document.{known}
+use Rattle.document_rules.specs.Steps.{indexOf}
+use Rattle.document_rules.proofs.Stood.{Stood}
 use Rattle.telling.specs.declared.Draft.{Draft}
 use Rattle.telling.specs.declared.Told.{Told}
 use Rattle.tables.specs.declared.Refusal.{Refusal}

@@ -2,7 +2,7 @@
 use Prim.Native.Nat.{ℕ}
 use mathlib.Core.Path.{_≡_, sym, ap, _∙_}
 use mathlib.Core.List.{List}
-use Rattle.document.proofs.Laws.{one-index}
+use Rattle.document_rules.proofs.Laws.{one-index}
 use Rattle.tables.specs.declared.Tables.{Tables}
 use Rattle.tables.specs.Steps.{tabled, Tabled}
 

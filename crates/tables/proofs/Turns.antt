@@ -13,9 +13,9 @@ use Rattle.ascii.proofs.Spans.{drop-one}
 use Rattle.lexer.specs.Lex.{spans, namesIn}
 use Rattle.schema.specs.Schema.{any}
 use Rattle.writer.proofs.Writes.{cut-is}
-use Rattle.document.specs.declared.Entry.{Entry}
-use Rattle.document.specs.declared.Index.{Index}
-use Rattle.document.specs.Steps.{Indexes}
+use Rattle.document_rules.specs.declared.Entry.{Entry}
+use Rattle.document_rules.specs.declared.Index.{Index}
+use Rattle.document_rules.specs.Steps.{Indexes}
 use Rattle.telling.specs.declared.Names.{Names}
 use Rattle.telling.specs.declared.Told.{Told}
 use Rattle.telling.specs.Steps.{told}

@@ -12,9 +12,9 @@ use Rattle.schema.specs.Schema.{any}
 use Rattle.element.specs.Element.{goodOf}
 use Rattle.element.specs.Steps.{is, lacksFirst, numbered}
 use Rattle.reading.specs.Steps as reading
-use Rattle.document.specs.declared.Entry.{Entry}
-use Rattle.document.specs.declared.Index.{Index}
-use Rattle.document.specs.Steps.{Indexes}
+use Rattle.document_rules.specs.declared.Entry.{Entry}
+use Rattle.document_rules.specs.declared.Index.{Index}
+use Rattle.document_rules.specs.Steps.{Indexes}
 use Rattle.telling.specs.declared.Names.{Names}
 use Rattle.telling.specs.declared.Head.{Head}
 use Rattle.telling.specs.declared.Told.{Told}

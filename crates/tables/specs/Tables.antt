@@ -12,7 +12,7 @@ use Rattle.records.specs.declared.Action.{Action}
 use Rattle.schema.specs.Schema.{any, oneOf, under}
 use Rattle.element.specs.Element.{Known, Fault, _at_if_, goodOf, channelOf, spelled, valueOf, has, textOf}
 use Rattle.reading.specs.Reading.{is, Bus, busOf, triggerOf, filterOf, actionOf}
-use Rattle.document.specs.Document.{gathered, knownIn}
+use Rattle.document_rules.specs.Document.{gathered, knownIn}
 
 unfoldable pub kept : (Known → Bool) → List Known → List Known
 kept p [] = []

@@ -2,8 +2,8 @@
 use Prim.Native.Nat.{ℕ}
 use mathlib.Core.Path.{_≡_, refl}
 use mathlib.Core.List.{List, [], _∷_}
-use Rattle.document.specs.declared.Entry.{Entry}
-use Rattle.document.specs.declared.Index.{Index}
+use Rattle.document_rules.specs.declared.Entry.{Entry}
+use Rattle.document_rules.specs.declared.Index.{Index}
 use Rattle.telling.specs.declared.Told.{Told}
 use Rattle.telling.specs.Steps.{folded, entriesOf, nothing, tellHead, tellTrigger, tellName, tellFilter, tellDraft, tellEntry, told}
 

@@ -21,7 +21,7 @@ use Rattle.schema.specs.declared.Kind.the-variants.{File, Kvaser, Version, Sett
 use Rattle.schema.proofs.Every.{tag, told}
 use Rattle.element.specs.Element.{goodOf}
 use Rattle.element.specs.Steps.{is, gathered, numbered, valueAt}
-use Rattle.document.specs.declared.Entry.{Entry}
+use Rattle.document_rules.specs.declared.Entry.{Entry}
 use Rattle.reading.specs.Steps as reading
 use Rattle.writer.specs.declared.Triggers as writer-triggers
 use Rattle.writer.specs.declared.Filters as writer-filters

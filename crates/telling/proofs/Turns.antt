@@ -12,9 +12,9 @@ use mir.Val.{Fits}
 use borrow.Author.Needs.{scaled-fits, fits-under}
 use Rattle.writer.proofs.Writes.{cut-is, cut-long}
 use Rattle.writer.proofs.Sizes.{clamped}
-use Rattle.document.specs.declared.Entry.{Entry}
-use Rattle.document.specs.declared.Index.{Index}
-use Rattle.document.specs.Steps.{noEntry}
+use Rattle.document_rules.specs.declared.Entry.{Entry}
+use Rattle.document_rules.specs.declared.Index.{Index}
+use Rattle.document_rules.specs.Steps.{noEntry}
 use Rattle.telling.specs.Steps.{folded, entriesOf}
 
 pub less : (n i : ℕ) → i < n → n - (i + 1) < n - i

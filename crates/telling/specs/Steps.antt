@@ -17,8 +17,8 @@ use Rattle.schema.specs.Schema.{oneOf, under}
 use Rattle.schema.specs.Steps.{nameOf}
 use Rattle.element.specs.Element.{goodOf}
 use Rattle.element.specs.Steps.{is, gathered, numbered, valueAt}
-use Rattle.document.specs.declared.Entry.{Entry}
-use Rattle.document.specs.declared.Index.{Index}
+use Rattle.document_rules.specs.declared.Entry.{Entry}
+use Rattle.document_rules.specs.declared.Index.{Index}
 use Rattle.reading.specs.Steps as reading
 use Rattle.writer.specs.declared.Triggers.{Triggers}
 use Rattle.writer.specs.declared.Filters.{Filters}

@@ -11,7 +11,7 @@ ghost use Rattle.ascii.specs.Texts.{bytes};
 ghost use Rattle.element.specs.Element.{goodOf};
 ghost use Rattle.element.specs.Steps.{numbered, valueAt};
 ghost use Rattle.telling.specs.Steps.{folded, entriesOf, isUnder, noTriggers, tellTrigger, noNames, tellName, noFilters, withChannel, tellFilter, emptyDraft, noDrafts, pushAction, withPart, tellDraft, noHead, tellHead, told};
-use document::Index;
+use document_rules::Index;
 use records::Cause;
 use records::Effect;
 use records::Filter;

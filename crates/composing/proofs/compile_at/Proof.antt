@@ -10,7 +10,7 @@ use lib.ListN.{length-replicate}
 use Rattle.walk.specs.Text.{trimmed}
 use Rattle.single_text.proofs.Laws.{single-bounds, single-part}
 use Rattle.grammar.specs.Steps.{compiled}
-use Rattle.picking.proofs.Texts.{laid-within, laid-count, laid-taken}
+use Rattle.element.proofs.Texts.{laid-within, laid-count, laid-taken}
 use Rattle.tables.specs.Steps.{namesAt}
 use Rattle.composing.specs.Steps.{compiledAt}
 

@@ -4,7 +4,7 @@ use Rattle.composing.proofs.compile_text.Statement.{statement}
 use Rattle.composing.proofs.compile_text.Tie as tie
 use mathlib.Core.Path.{sym, _∙_}
 use native.Mathlib.Omega.{arith}
-use Rattle.picking.proofs.Texts.{trimmed-bounds, trimmed-part}
+use Rattle.element.proofs.Texts.{trimmed-bounds, trimmed-part}
 use Rattle.writer.proofs.Writes.{cut-there, cut-long}
 use Rattle.composing.proofs.Turns.{names-counted}
 

@@ -32,9 +32,9 @@ use native.Mathlib.Omega.{arith}
 use lib.ListN.{length}
 use Rattle.walk.specs.Steps.{contentAt, skipped}
 use Rattle.walk.proofs.Bounds.{item-from, skipped-bounds}
-use Rattle.document.specs.Steps.{Found, visitBody, visitFrom, found}
-use Rattle.document.proofs.Turns.{visit-past, visit-fault, visit-good, tag-fault-kept, stray-fault, no-fault, refused-same}
-use Rattle.document.proofs.Insides.{ready-deep, ready-inside, inside-moved, Inner, inner-start, empty-leaves, broken-none, inner-over, inner-broken, inner-text, inner-remark, child-ready, inner-child, inner-leaves}
+use Rattle.document_rules.specs.Steps.{Found, visitBody, visitFrom, found}
+use Rattle.document_rules.proofs.Turns.{visit-past, visit-fault, visit-good, tag-fault-kept, stray-fault, no-fault, refused-same}
+use Rattle.document_rules.proofs.Insides.{ready-deep, ready-inside, inside-moved, Inner, inner-start, empty-leaves, broken-none, inner-over, inner-broken, inner-text, inner-remark, child-ready, inner-child, inner-leaves}
 use borrow.Author.Needs.{needs}
 
 abbrev μ-visit : Measures 2 visit-kinds.ps ℕ

@@ -7,7 +7,7 @@ use native.Mathlib.Omega.{arith}
 use Rattle.walk.proofs.Bounds.{name-bounds}
 use Rattle.walk_laws.proofs.Slices.{slice-part}
 use Rattle.schema.specs.Steps.{kindUnder}
-use Rattle.document.specs.Steps.{childAt}
+use Rattle.document_rules.specs.Steps.{childAt}
 
 name-of-requires : tie.Need-name-of-requires
 name-of-requires c κs = search needs

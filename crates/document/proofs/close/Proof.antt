@@ -3,7 +3,7 @@ use borrow.Author.Needs.{needs}
 use Rattle.document.proofs.close.Statement.{statement}
 use Rattle.document.proofs.close.Tie as tie
 use mathlib.Core.Path.{refl}
-use Rattle.document.specs.Steps.{closed, found}
+use Rattle.document_rules.specs.Steps.{closed, found}
 
 lacks-some-requires : tie.Need-lacks-some-requires
 lacks-some-requires c κs = search needs

@@ -4,8 +4,8 @@ use Rattle.document.proofs.entries_of.Tie as tie
 use Prim.Native.Nat.{_-_, _≤_}
 use mathlib.Core.Path.{_≡_, refl, ap, _∙_}
 use native.Mathlib.Omega.{arith}
-use Rattle.document.specs.Steps.{entriesFrom}
-use Rattle.document.proofs.Marks.{entries-more, entries-full}
+use Rattle.document_rules.specs.Steps.{entriesFrom}
+use Rattle.document_rules.proofs.Marks.{entries-more, entries-full}
 use borrow.Author.Needs.{needs}
 
 abbrev Inv-loop : tie.InvT-loop

@@ -2,7 +2,7 @@
 use borrow.Author.Needs.{needs}
 use Rattle.document.proofs.entry_from.Statement.{statement}
 use Rattle.document.proofs.entry_from.Tie as tie
-use Rattle.document.specs.Steps.{entryFrom}
+use Rattle.document_rules.specs.Steps.{entryFrom}
 
 kind-of-requires : tie.Need-kind-of-requires
 kind-of-requires c κs = search needs

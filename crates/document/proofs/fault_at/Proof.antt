@@ -3,7 +3,7 @@ use borrow.Author.Needs.{needs}
 use Rattle.document.proofs.fault_at.Statement.{statement}
 use Rattle.document.proofs.fault_at.Tie as tie
 use mathlib.Core.Path.{sym, _∙_}
-use Rattle.document.specs.Steps.{faultAt}
+use Rattle.document_rules.specs.Steps.{faultAt}
 
 is-barred-requires : tie.Need-is-barred-requires
 is-barred-requires c κs = search needs

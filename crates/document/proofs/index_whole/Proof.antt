@@ -6,7 +6,7 @@ use Prim.Native.Nat.{ℕ}
 use native.Mathlib.Omega.{arith}
 use lib.ListN.{length-replicate}
 use Rattle.walk_laws.proofs.Laws.{root-law}
-use Rattle.document.proofs.Turns.{whole-known, whole-other}
+use Rattle.document_rules.proofs.Turns.{whole-known, whole-other}
 
 root-at-requires : tie.Need-root-at-requires
 root-at-requires c κs = search needs

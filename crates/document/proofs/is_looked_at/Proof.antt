@@ -4,7 +4,7 @@ use Rattle.document.proofs.is_looked_at.Statement.{statement}
 use Rattle.document.proofs.is_looked_at.Tie as tie
 use mathlib.Core.Path.{sym, _∙_}
 use borrow.Author.Tests.{eq-eqb, ne-eqb}
-use Rattle.document.specs.Steps.{looked, found}
+use Rattle.document_rules.specs.Steps.{looked, found}
 
 returns : tie.Need-returns
 unfolding looked found

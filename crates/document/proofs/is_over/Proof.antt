@@ -3,7 +3,7 @@ use borrow.Author.Needs.{needs}
 use Rattle.document.proofs.is_over.Statement.{statement}
 use Rattle.document.proofs.is_over.Tie as tie
 use mathlib.Core.Path.{sym, ap, _∙_}
-use Rattle.document.specs.Steps.{overBy, isOver}
+use Rattle.document_rules.specs.Steps.{overBy, isOver}
 
 times-of-requires : tie.Need-times-of-requires
 times-of-requires c κs = search needs

@@ -2,7 +2,7 @@
 use borrow.Author.Needs.{needs}
 use Rattle.document.proofs.kind_number.Statement.{statement}
 use Rattle.document.proofs.kind_number.Tie as tie
-use Rattle.document.specs.Steps.{kindNumber}
+use Rattle.document_rules.specs.Steps.{kindNumber}
 
 enum-told : tie.Need-enum-told
 enum-told c = search needs

@@ -3,7 +3,7 @@ use borrow.Author.Needs.{needs}
 use Rattle.document.proofs.lacks_some.Statement.{statement}
 use Rattle.document.proofs.lacks_some.Tie as tie
 use mathlib.Core.Path.{sym, ap, _∙_}
-use Rattle.document.specs.Steps.{lacksBy, lacksSome}
+use Rattle.document_rules.specs.Steps.{lacksBy, lacksSome}
 
 times-of-requires : tie.Need-times-of-requires
 times-of-requires c κs = search needs

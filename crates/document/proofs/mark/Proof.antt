@@ -3,7 +3,7 @@ use borrow.Author.Needs.{needs}
 use Rattle.document.proofs.mark.Statement.{statement}
 use Rattle.document.proofs.mark.Tie as tie
 use mathlib.Core.Path.{sym, _∙_}
-use Rattle.document.specs.Steps.{marked}
+use Rattle.document_rules.specs.Steps.{marked}
 
 is-carried-requires : tie.Need-is-carried-requires
 is-carried-requires c κs = search needs

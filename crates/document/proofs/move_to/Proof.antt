@@ -2,7 +2,7 @@
 use Rattle.document.proofs.move_to.Statement.{statement}
 use Rattle.document.proofs.move_to.Tie as tie
 use mathlib.Core.Path.{refl}
-use Rattle.document.specs.Steps.{found}
+use Rattle.document_rules.specs.Steps.{found}
 
 returns : tie.Need-returns
 unfolding found

@@ -3,7 +3,7 @@ use borrow.Author.Needs.{needs}
 use Rattle.document.proofs.one_more.Statement.{statement}
 use Rattle.document.proofs.one_more.Tie as tie
 use borrow.Author.Tests.{lt-ltb, le-ltb}
-use Rattle.document.specs.Steps.{oneMore}
+use Rattle.document_rules.specs.Steps.{oneMore}
 
 add-result : tie.Need-add-result
 add-result c = search needs

@@ -4,7 +4,7 @@ use Rattle.document.proofs.read_index.Statement.{statement}
 use Rattle.document.proofs.read_index.Tie as tie
 use mathlib.Core.Path.{subst}
 use Rattle.xml.specs.Shape.{Shaped}
-use Rattle.document.proofs.Laws.{indexes-whole, indexes-long, indexes-broken}
+use Rattle.document_rules.proofs.Laws.{indexes-whole, indexes-long, indexes-broken}
 
 read-shape-requires : tie.Need-read-shape-requires
 read-shape-requires c κs = search needs

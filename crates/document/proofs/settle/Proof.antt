@@ -3,7 +3,7 @@ use borrow.Author.Needs.{needs}
 use Rattle.document.proofs.settle.Statement.{statement}
 use Rattle.document.proofs.settle.Tie as tie
 use mathlib.Core.Path.{_∙_}
-use Rattle.document.specs.Steps.{indexAt, found}
+use Rattle.document_rules.specs.Steps.{indexAt, found}
 
 refuse-requires : tie.Need-refuse-requires
 refuse-requires c κs = search needs

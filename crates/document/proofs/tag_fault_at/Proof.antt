@@ -3,7 +3,7 @@ use borrow.Author.Needs.{needs}
 use Rattle.document.proofs.tag_fault_at.Statement.{statement}
 use Rattle.document.proofs.tag_fault_at.Tie as tie
 use mathlib.Core.Path.{sym, _∙_}
-use Rattle.document.specs.Steps.{tagFaultAt}
+use Rattle.document_rules.specs.Steps.{tagFaultAt}
 
 is-barred-requires : tie.Need-is-barred-requires
 is-barred-requires c κs = search needs

@@ -8,7 +8,7 @@ use mathlib.Core.List.{List}
 use lib.ListN.{length-replicate}
 use Rattle.ascii.specs.Texts.{bytes, same}
 use Rattle.walk.specs.Text.{trimmed}
-use Rattle.picking.proofs.Texts.{laid-within, laid-count, laid-taken}
+use Rattle.element.proofs.Texts.{laid-within, laid-count, laid-taken}
 
 slice-aggregate-gather-text : tie.Need-slice-aggregate-gather-text
 slice-aggregate-gather-text c = search needs

@@ -7,7 +7,7 @@ use mathlib.Core.Path.{ap, _∙_}
 use mathlib.Core.List.{List}
 use native.Mathlib.Omega.{arith}
 use Rattle.ascii.specs.Texts.{bytes, same}
-use Rattle.picking.proofs.Texts.{trimmed-bounds, trimmed-part}
+use Rattle.element.proofs.Texts.{trimmed-bounds, trimmed-part}
 
 trim-requires : tie.Need-trim-requires
 trim-requires c κs = search needs

@@ -9,7 +9,7 @@ use lib.ListN.{length-replicate}
 use Rattle.values.specs.Values.{worth}
 use Rattle.schema.specs.Schema.{_to_}
 use Rattle.walk.specs.Text.{trimmed}
-use Rattle.picking.proofs.Texts.{laid-within, laid-count, laid-taken}
+use Rattle.element.proofs.Texts.{laid-within, laid-count, laid-taken}
 
 slice-aggregate-gather-text : tie.Need-slice-aggregate-gather-text
 slice-aggregate-gather-text c = search needs

@@ -6,7 +6,7 @@ use mathlib.Core.Path.{ap, _∙_}
 use native.Mathlib.Omega.{arith}
 use Rattle.values.specs.Values.{worth}
 use Rattle.schema.specs.Schema.{_to_}
-use Rattle.picking.proofs.Texts.{trimmed-bounds, trimmed-part}
+use Rattle.element.proofs.Texts.{trimmed-bounds, trimmed-part}
 
 trim-requires : tie.Need-trim-requires
 trim-requires c κs = search needs

@@ -28,13 +28,13 @@ use Rattle.schema.proofs.Laws.{carried-carried, unknown-kind}
 use Rattle.element.specs.Element.{Known, Fault, _at_if_, ownFaults}
 use Rattle.element.specs.Steps.{firstNumber}
 use Rattle.element_laws.proofs.Laws.{fault-place, no-fault}
-use Rattle.document.specs.declared.Index.{Index}
-use Rattle.document.specs.Document.{gathered, known, knownIn, knownAt, lacks, elementFaults}
-use Rattle.document.specs.Steps.{absorbed, absorb, entered, refusal, Found, empty, noEntry, entryOf, indexOf, noneSeen, isOver, childAt, visitFrom, noneFound, indexAt, indexed, Indexes}
-use Rattle.document.proofs.Absorbs.{absorb-still, absorb-enter, absorb-refuse}
-use Rattle.document.proofs.Seens.{seen-none}
-use Rattle.document.proofs.Visits.{Agrees, child-kind, visits}
-use Rattle.document.proofs.Few.{Clean, clean-first, few}
+use Rattle.document_rules.specs.declared.Index.{Index}
+use Rattle.document_rules.specs.Document.{gathered, known, knownIn, knownAt, lacks, elementFaults}
+use Rattle.document_rules.specs.Steps.{absorbed, absorb, entered, refusal, Found, empty, noEntry, entryOf, indexOf, noneSeen, isOver, childAt, visitFrom, noneFound, indexAt, indexed, Indexes}
+use Rattle.document_rules.proofs.Absorbs.{absorb-still, absorb-enter, absorb-refuse}
+use Rattle.document_rules.proofs.Seens.{seen-none}
+use Rattle.document_rules.proofs.Visits.{Agrees, child-kind, visits}
+use Rattle.document_rules.proofs.Few.{Clean, clean-first, few}
 
 -- ---- the fold, if there is no fault
 pub enter-one : (done : List Known) (k : Known) → length done < 382 → entered (indexOf done) (kindAmong kinds (k .name)) (k .place) ≡ indexOf (done ++ (k ∷ []))

@@ -21,9 +21,9 @@ use Rattle.schema.specs.Schema.{parents, parentIn, any, oneOf, under}
 use Rattle.schema.specs.Steps.{nameOf, kinds, kindAmong, kindUnder}
 use Rattle.schema.proofs.Every.{everywhere}
 use Rattle.schema.proofs.Laws.{kind-back, carried-name, carried-carried}
-use Rattle.document.proofs.Seens.{same-back}
+use Rattle.document_rules.proofs.Seens.{same-back}
 use Rattle.element.specs.Element.{Known, Fault, tooMany, ownFaults}
-use Rattle.document.specs.Document.{gathered, counted, knownIn, knownAt, known}
+use Rattle.document_rules.specs.Document.{gathered, counted, knownIn, knownAt, known}
 
 -- ---- room under a parent, where an element with the name n and all it holds comes to `load n`
 module _ (load : List ℕ → ℕ) where

@@ -21,12 +21,12 @@ use Rattle.schema.specs.Schema.{under}
 use Rattle.schema.specs.Steps.{nameOf, kinds, kindAmong, kindUnder, orderOf, isCarried}
 use Rattle.element.specs.Element.{Known, Fault, ownFaults}
 use Rattle.element.specs.Steps.{lacksFirst, ownFault, tagFault, firstNumber}
-use Rattle.document.specs.Document.{known, elementFaults}
-use Rattle.document.specs.declared.Entry.{Entry}
-use Rattle.document.specs.declared.Index.{Index}
-use Rattle.document.specs.declared.Seen.{Seen}
-use Rattle.document.specs.declared.Walk.{Walk}
-use Rattle.document.specs.declared.Inside.{Inside}
+use Rattle.document_rules.specs.Document.{known, elementFaults}
+use Rattle.document_rules.specs.declared.Entry.{Entry}
+use Rattle.document_rules.specs.declared.Index.{Index}
+use Rattle.document_rules.specs.declared.Seen.{Seen}
+use Rattle.document_rules.specs.declared.Walk.{Walk}
+use Rattle.document_rules.specs.declared.Inside.{Inside}
 
 -- the index so far, and whether a required element lacks
 pub record Found : Type 0 where

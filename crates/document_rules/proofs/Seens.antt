@@ -21,9 +21,9 @@ use Rattle.schema.proofs.Every.{everywhere}
 use Rattle.schema.proofs.Laws.{carried-carried, barred-kind, unknown-kind, order-is, held-few}
 use Rattle.element.specs.Element.{tooMany}
 use Rattle.element.specs.Steps.{lacksFirst}
-use Rattle.document.specs.declared.Seen.{Seen}
-use Rattle.document.specs.Document.{counted, unmet}
-use Rattle.document.specs.Steps.{noneSeen, oneMore, marked, overBy, isOver, lacksBy, lacksSome}
+use Rattle.document_rules.specs.declared.Seen.{Seen}
+use Rattle.document_rules.specs.Document.{counted, unmet}
+use Rattle.document_rules.specs.Steps.{noneSeen, oneMore, marked, overBy, isOver, lacksBy, lacksSome}
 
 -- ---- the count, which stands still at 64
 unfoldable pub capped : ℕ → ℕ

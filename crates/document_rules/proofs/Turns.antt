@@ -16,10 +16,10 @@ use Rattle.schema.specs.declared.Kind.the-variants.{File}
 use Rattle.schema.specs.Steps.{isCarried}
 use Rattle.element.specs.Steps.{worded, ownFault, tagFault}
 use Rattle.element_laws.proofs.Wordings.{fault-some, fault-text}
-use Rattle.document.specs.declared.Index.{Index}
-use Rattle.document.specs.declared.Seen.{Seen}
-use Rattle.document.specs.declared.Walk.{Walk}
-use Rattle.document.specs.Steps.{Found, noneSeen, marked, isOver, closed, childAt, isBarred, looked, faultAt, tagFaultAt, enteredFound, refusedFound, visitItems, visitBody, visitFrom, refusal, noneFound, indexAt, indexed, found}
+use Rattle.document_rules.specs.declared.Index.{Index}
+use Rattle.document_rules.specs.declared.Seen.{Seen}
+use Rattle.document_rules.specs.declared.Walk.{Walk}
+use Rattle.document_rules.specs.Steps.{Found, noneSeen, marked, isOver, closed, childAt, isBarred, looked, faultAt, tagFaultAt, enteredFound, refusedFound, visitItems, visitBody, visitFrom, refusal, noneFound, indexAt, indexed, found}
 
 -- the steps of the loop, by what stands next
 module _ (visit : ℕ → Kind → Bool → Found → Found) (f : List ℕ) (q : Kind) (j : ℕ) (s : Seen) (r : Found) where

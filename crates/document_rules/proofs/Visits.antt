@@ -25,13 +25,13 @@ use Rattle.schema.proofs.Laws.{kind-back, carried-name, carried-carried, barred
 use Rattle.element.specs.Element.{Known, ownFaults, tooMany}
 use Rattle.element.specs.Steps.{firstNumber}
 use Rattle.element_laws.proofs.Laws.{fault-law, over-law, barred-law}
-use Rattle.document.specs.declared.Index.{Index}
-use Rattle.document.specs.declared.Seen.{Seen}
-use Rattle.document.specs.Document.{counted, held, knownIn, knownAt, unmet, lacks}
-use Rattle.document.specs.Steps.{absorbed, absorb, entered, refusal, Found, enteredFound, refusedFound, noneSeen, marked, isOver, closed, childAt, isBarred, looked, faultAt, visitItems, visitBody, visitFrom}
-use Rattle.document.proofs.Absorbs.{absorb-append, absorb-still, absorb-none, absorb-enter, any-append}
-use Rattle.document.proofs.Seens.{SeenIs, seen-none, seen-on, over-is, lack-is}
-use Rattle.document.proofs.Turns.{visit-text, visit-remark, visit-child, visit-close}
+use Rattle.document_rules.specs.declared.Index.{Index}
+use Rattle.document_rules.specs.declared.Seen.{Seen}
+use Rattle.document_rules.specs.Document.{counted, held, knownIn, knownAt, unmet, lacks}
+use Rattle.document_rules.specs.Steps.{absorbed, absorb, entered, refusal, Found, enteredFound, refusedFound, noneSeen, marked, isOver, closed, childAt, isBarred, looked, faultAt, visitItems, visitBody, visitFrom}
+use Rattle.document_rules.proofs.Absorbs.{absorb-append, absorb-still, absorb-none, absorb-enter, any-append}
+use Rattle.document_rules.proofs.Seens.{SeenIs, seen-none, seen-on, over-is, lack-is}
+use Rattle.document_rules.proofs.Turns.{visit-text, visit-remark, visit-child, visit-close}
 
 or-assoc : (a b c : Bool) → ((a || b) || c) ≡ (a || (b || c))
 or-assoc true b c = refl

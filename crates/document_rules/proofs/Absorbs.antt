@@ -10,8 +10,8 @@ use Rattle.schema.specs.Schema.{any}
 use Rattle.schema.specs.Steps.{kinds, kindAmong}
 use Rattle.element.specs.Element.{Known, ownFaults}
 use Rattle.element.specs.Steps.{firstNumber}
-use Rattle.document.specs.declared.Index.{Index}
-use Rattle.document.specs.Steps.{refusal, entered, absorbed, absorb}
+use Rattle.document_rules.specs.declared.Index.{Index}
+use Rattle.document_rules.specs.Steps.{refusal, entered, absorbed, absorb}
 
 pub absorb-append : (ks ms : List Known) (x : Index) → absorb (ks ++ ms) x ≡ absorb ms (absorb ks x)
 unfolding absorb

@@ -14,9 +14,9 @@ use Rattle.schema.specs.declared.Kind.{Kind}
 use Rattle.schema.specs.declared.Kind.the-variants.{File, NotCarried, Unknown}
 use Rattle.schema.specs.Steps.{kinds}
 use Rattle.schema.proofs.Every.{everywhere}
-use Rattle.document.specs.declared.Entry.{Entry}
-use Rattle.document.specs.declared.Walk.{Walk}
-use Rattle.document.specs.Steps.{noEntry, entered, enteredFound, kindNumber, kindOf, entryFrom, entriesFrom, found}
+use Rattle.document_rules.specs.declared.Entry.{Entry}
+use Rattle.document_rules.specs.declared.Walk.{Walk}
+use Rattle.document_rules.specs.Steps.{noEntry, entered, enteredFound, kindNumber, kindOf, entryFrom, entriesFrom, found}
 
 -- ---- numbers of kinds
 pub number-low : (k : Kind) → kindNumber k < 32

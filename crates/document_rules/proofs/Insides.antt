@@ -21,10 +21,10 @@ use Rattle.walk.proofs.Turns as walks
 use Rattle.walk_laws.proofs.Laws.{BodyTold, content-law, item-law, skip-law, text-law, element-deep}
 use Rattle.walk_laws.proofs.Strays.{stray-start, stray-blank, stray-found}
 use Rattle.schema.specs.declared.Kind.{Kind}
-use Rattle.document.specs.declared.Inside.{Inside}
-use Rattle.document.specs.declared.Seen.{Seen}
-use Rattle.document.specs.Steps.{Found, noneSeen, marked, isOver, closed, childAt, visitBody, visitFrom, found, Ready, InsideIs}
-use Rattle.document.proofs.Turns.{VisitTurn, on-text, on-remark, on-child, on-close, inside-open, inside-empty}
+use Rattle.document_rules.specs.declared.Inside.{Inside}
+use Rattle.document_rules.specs.declared.Seen.{Seen}
+use Rattle.document_rules.specs.Steps.{Found, noneSeen, marked, isOver, closed, childAt, visitBody, visitFrom, found, Ready, InsideIs}
+use Rattle.document_rules.proofs.Turns.{VisitTurn, on-text, on-remark, on-child, on-close, inside-open, inside-empty}
 
 -- ---- the element that is visited
 pub ready-deep : (f : List ℕ) (d i : ℕ) (ms : List ℕ) → Ready f d i ms → d ≡ 0 → ⊥

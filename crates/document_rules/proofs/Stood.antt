@@ -15,8 +15,8 @@ use Rattle.walk.specs.Stands.{ElementAt, ContentAt}
 use Rattle.walk_laws.proofs.Laws.{root-law, element-law, element-deep, ItemTold, item-law, BodyTold, content-law}
 use Rattle.schema.specs.Schema.{Parent, oneOf, under}
 use Rattle.element.specs.Element.{Known}
-use Rattle.document.specs.Document.{counted, knownIn, knownAt, known}
-use Rattle.document.proofs.Visits.{known-texted, content-inside}
+use Rattle.document_rules.specs.Document.{counted, knownIn, knownAt, known}
+use Rattle.document_rules.proofs.Visits.{known-texted, content-inside}
 
 pub record Stood (f : List ℕ) (k : Known) : Type 0 where
   pub depth : ℕ
