@@ -6,7 +6,7 @@
 ghost use mathlib.Core.Path.{_≡_};
 ghost use Prim.Native.Nat.{_≤_, min};
 ghost use lib.ListN.{length, take};
-ghost use Rattle.walk.specs.Text.{trimmed};
+ghost use Rattle.walk_rules.specs.Text.{trimmed};
 ghost use Rattle.grammar.specs.Steps.{compiled};
 ghost use Rattle.tables.specs.Steps.{namesAt};
 ghost use Rattle.composing.specs.Steps.{compiledAt, noLine, noLines, lineFrom, pushLine, stopped, composed};

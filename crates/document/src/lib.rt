@@ -9,7 +9,7 @@ ghost use mathlib.Core.List.{List};
 ghost use lib.ListN.{length, getD, set};
 ghost use Rattle.xml.specs.declared.Shape.the-variants.{Whole};
 ghost use Rattle.xml.specs.Shape.{Shaped};
-ghost use Rattle.walk.specs.Steps.{contentAt, skipped};
+ghost use Rattle.walk_rules.specs.Steps.{contentAt, skipped};
 ghost use Rattle.element.specs.Steps.{lacksFirst, worded};
 ghost use Rattle.schema.specs.Steps.{isCarried};
 ghost use Rattle.document_rules.specs.Steps.{refusal, enteredFound, refusedFound, noneSeen, oneMore, marked, isOver, lacksSome, closed, childAt, isBarred, looked, faultAt, tagFaultAt, visitBody, visitFrom, indexAt, noneFound, indexed, Indexes, kindNumber, kindOf, entryFrom, entriesFrom, found, Ready, VisitedIs, InsideIs};
@@ -20,8 +20,8 @@ use document_rules::Seen;
 use document_rules::Walk;
 use schema::Kind;
 use schema::Times;
-use walk::Body;
-use walk::Item;
+use walk_rules::Body;
+use walk_rules::Item;
 use xml::Shape;
 
 fn is_carried(kind: Kind) -> bool
@@ -307,7 +307,7 @@ fn close(walk: Walk, kind: Kind, seen: Seen, end: usize, stray: bool) -> Inside
 fn child_at(file: &[u8], j: usize, parent: Kind) -> Kind
     ensures { λ r. ⌜ r ≡ childAt (now (file .entry)) j parent ⌝ }
 {
-    let name = walk::name_of(file, j);
+    let name = tag_walk::name_of(file, j);
     let from = name.from;
     let to = name.to;
     naming::kind_under(parent, &file[from..to])
@@ -401,7 +401,7 @@ fn visit_inside(file: &[u8], kind: Kind, left: usize, entered: Walk, marks: &mut
     ensures { λ r. ⌜ InsideIs (now (file .entry)) (entered .at) (visitBody (visitFrom (now (file .entry)) left) (now (file .entry)) kind (found entered (now (marks .entry))) (contentAt (now (file .entry)) (entered .at))) r (now (marks .exit)) ⌝ }
 {
     let i = entered.at;
-    match walk::content_at(file, i) {
+    match tag_walk::content_at(file, i) {
         Body::Broken => close(entered, kind, none_seen(), i, false),
         Body::Empty(e) => close(entered, kind, none_seen(), e, false),
         Body::Open(o) => {

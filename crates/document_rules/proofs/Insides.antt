@@ -11,13 +11,13 @@ use borrow.Author.Tests.{ltb-true, ltb-false}
 use Rattle.letters.specs.Kinds.{isBlank}
 use Rattle.ascii.proofs.Cases.{by-cases}
 use Rattle.xml.specs.Shape.{Node, node, Items}
-use Rattle.walk.specs.declared.Item.{Item}
-use Rattle.walk.specs.declared.Body.{Body}
-use Rattle.walk.specs.Text.{joined}
-use Rattle.walk.specs.Stands.{ElementAt, ContentAt}
-use Rattle.walk.specs.Steps.{past, itemAt, contentAt, skipped, walkItems, texting, innerStart, textOf, stray}
-use Rattle.walk.proofs.Bounds.{item-over, item-from}
-use Rattle.walk.proofs.Turns as walks
+use Rattle.walk_rules.specs.declared.Item.{Item}
+use Rattle.walk_rules.specs.declared.Body.{Body}
+use Rattle.walk_rules.specs.Text.{joined}
+use Rattle.walk_rules.specs.Stands.{ElementAt, ContentAt}
+use Rattle.walk_rules.specs.Steps.{past, itemAt, contentAt, skipped, walkItems, texting, innerStart, textOf, stray}
+use Rattle.walk_rules.proofs.Bounds.{item-over, item-from}
+use Rattle.walk_rules.proofs.Turns as walks
 use Rattle.walk_laws.proofs.Laws.{BodyTold, content-law, item-law, skip-law, text-law, element-deep}
 use Rattle.walk_laws.proofs.Strays.{stray-start, stray-blank, stray-found}
 use Rattle.schema.specs.declared.Kind.{Kind}

@@ -16,8 +16,8 @@ use Rattle.xml.specs.declared.Shape.the-variants.{Whole, TooLong, Broken}
 use Rattle.xml.specs.Shape.{Attribute, Node, node, Items, WellShaped, Shaped, refusalOf}
 use Rattle.xml_laws.proofs.OneDoc.{one-doc}
 use Rattle.xml_laws.proofs.OneAnswer.{one-answer}
-use Rattle.walk.specs.Steps as walk
-use Rattle.walk.specs.Stands.{ElementAt}
+use Rattle.walk_rules.specs.Steps as walk
+use Rattle.walk_rules.specs.Stands.{ElementAt}
 use Rattle.walk_laws.proofs.Laws.{root-law, element-law}
 use Rattle.schema.specs.declared.Kind.{Kind}
 use Rattle.schema.specs.declared.Kind.the-variants.{File, Unknown}

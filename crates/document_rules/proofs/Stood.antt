@@ -8,10 +8,10 @@ use lib.ListN.{length}
 use lib.Seq.{slice}
 use Rattle.ascii.proofs.Cases.{by-cases}
 use Rattle.xml.specs.Shape.{Node, node, Items, WellShaped}
-use Rattle.walk.specs.declared.Item.{Item}
-use Rattle.walk.specs.declared.Body.{Body}
-use Rattle.walk.specs.Steps as walk
-use Rattle.walk.specs.Stands.{ElementAt, ContentAt}
+use Rattle.walk_rules.specs.declared.Item.{Item}
+use Rattle.walk_rules.specs.declared.Body.{Body}
+use Rattle.walk_rules.specs.Steps as walk
+use Rattle.walk_rules.specs.Stands.{ElementAt, ContentAt}
 use Rattle.walk_laws.proofs.Laws.{root-law, element-law, element-deep, ItemTold, item-law, BodyTold, content-law}
 use Rattle.schema.specs.Schema.{Parent, oneOf, under}
 use Rattle.element.specs.Element.{Known}

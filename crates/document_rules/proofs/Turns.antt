@@ -6,11 +6,11 @@ use mathlib.Core.List.{List}
 use mathlib.Core.Bool.{Bool, true, false, not, cond, _&&_}
 use lib.ListN.{length}
 use borrow.Author.Tests.{eq-eqb, ne-eqb, not-true, not-false}
-use Rattle.walk.specs.declared.Item.{Item}
-use Rattle.walk.specs.declared.Body.{Body}
-use Rattle.walk.specs.Steps.{itemAt, contentAt, skipped, rootAt, textOf, stray}
-use Rattle.walk.proofs.Bounds.{item-from, skipped-bounds}
-use Rattle.walk.proofs.Turns.{Turn, start, next, done}
+use Rattle.walk_rules.specs.declared.Item.{Item}
+use Rattle.walk_rules.specs.declared.Body.{Body}
+use Rattle.walk_rules.specs.Steps.{itemAt, contentAt, skipped, rootAt, textOf, stray}
+use Rattle.walk_rules.proofs.Bounds.{item-from, skipped-bounds}
+use Rattle.walk_rules.proofs.Turns.{Turn, start, next, done}
 use Rattle.schema.specs.declared.Kind.{Kind}
 use Rattle.schema.specs.declared.Kind.the-variants.{File}
 use Rattle.schema.specs.Steps.{isCarried}

@@ -10,11 +10,11 @@ use lib.Seq.{slice}
 use borrow.Author.Tests.{ne-eqb, eqb-true, eqb-false}
 use Rattle.ascii.proofs.Cases.{by-cases, le-or-lt}
 use Rattle.xml.specs.Shape.{Attribute, Node, node, Items}
-use Rattle.walk.specs.declared.Item.{Item}
-use Rattle.walk.specs.declared.Body.{Body}
-use Rattle.walk.specs.Steps as walk
-use Rattle.walk.specs.Stands.{ElementAt, ContentAt, texted}
-use Rattle.walk.proofs.Bounds.{item-over}
+use Rattle.walk_rules.specs.declared.Item.{Item}
+use Rattle.walk_rules.specs.declared.Body.{Body}
+use Rattle.walk_rules.specs.Steps as walk
+use Rattle.walk_rules.specs.Stands.{ElementAt, ContentAt, texted}
+use Rattle.walk_rules.proofs.Bounds.{item-over}
 use Rattle.walk_laws.proofs.Laws.{element-law, element-deep, ItemTold, item-law, BodyTold, content-law, skip-law}
 use Rattle.schema.specs.declared.Kind.{Kind}
 use Rattle.schema.specs.declared.Kind.the-variants.{Unknown}

@@ -9,10 +9,10 @@ use lib.ListN.{length, getD, replicate, set, take}
 use lib.Seq.{slice}
 use Rattle.xml.specs.declared.Shape.{Shape}
 use Rattle.xml.specs.Shape.{Node, WellShaped, Shaped, refusalOf}
-use Rattle.walk.specs.declared.Item.{Item}
-use Rattle.walk.specs.declared.Body.{Body}
-use Rattle.walk.specs.Steps as walk
-use Rattle.walk.specs.Stands.{ElementAt}
+use Rattle.walk_rules.specs.declared.Item.{Item}
+use Rattle.walk_rules.specs.declared.Body.{Body}
+use Rattle.walk_rules.specs.Steps as walk
+use Rattle.walk_rules.specs.Stands.{ElementAt}
 use Rattle.schema.specs.declared.Kind.{Kind}
 use Rattle.schema.specs.declared.Kind.the-variants.{File, Kvaser, Version, Settings, Mode, CanBus, Parameters, TriggerBlock, Triggers, MsgId, MsgDlc, ErrorFrame, Startup, Statements, Statement, Expression, Actions, StartLog, StopLog, StopLogCompletely, Filters, MessagePass, MessageStop, Channel, NotCarried, Unknown}
 use Rattle.schema.specs.declared.Times.{Times}

@@ -10,13 +10,13 @@ use Rattle.ascii.specs.Texts.{same}
 use Rattle.ascii.proofs.Cases.{by-cases}
 use Rattle.ascii.proofs.Equal.{same-self, same-equal}
 use Rattle.xml.specs.Shape.{Attribute, node, Items}
-use Rattle.walk.specs.declared.Part.{Part}
-use Rattle.walk.specs.declared.Item.{Item}
-use Rattle.walk.specs.declared.Body.{Body}
-use Rattle.walk.specs.Text.{joined, trimmed}
-use Rattle.walk.specs.Stands.{ElementAt}
-use Rattle.walk.specs.Steps.{itemAt, contentAt, walkItems, texting, skipped, innerStart, textOf, stray, trimAt, Laid}
-use Rattle.walk.proofs.Bounds.{ItemFrom, item-bounds, BodyFrom, content-bounds, skipped-bounds}
+use Rattle.walk_rules.specs.declared.Part.{Part}
+use Rattle.walk_rules.specs.declared.Item.{Item}
+use Rattle.walk_rules.specs.declared.Body.{Body}
+use Rattle.walk_rules.specs.Text.{joined, trimmed}
+use Rattle.walk_rules.specs.Stands.{ElementAt}
+use Rattle.walk_rules.specs.Steps.{itemAt, contentAt, walkItems, texting, skipped, innerStart, textOf, stray, trimAt, Laid}
+use Rattle.walk_rules.proofs.Bounds.{ItemFrom, item-bounds, BodyFrom, content-bounds, skipped-bounds}
 use Rattle.walk_laws.proofs.Slices.{slice-part}
 use Rattle.walk_laws.proofs.Buffers.{laid-room, laid-long}
 use Rattle.walk_laws.proofs.Trims.{trim-law, trim-bounds}

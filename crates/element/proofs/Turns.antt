@@ -8,12 +8,12 @@ use lib.ListN.{length, take, drop}
 use lib.Seq.{slice}
 use Rattle.ascii.specs.Texts.{same}
 use Rattle.ascii.proofs.Cases.{by-cases}
-use Rattle.walk.specs.declared.Part.{Part}
-use Rattle.walk.specs.declared.TagPart.{TagPart}
-use Rattle.walk.specs.Steps as walk
-use Rattle.walk.proofs.Bounds.{PartFrom, part-bounds, part-from, part-over}
+use Rattle.walk_rules.specs.declared.Part.{Part}
+use Rattle.walk_rules.specs.declared.TagPart.{TagPart}
+use Rattle.walk_rules.specs.Steps as walk
+use Rattle.walk_rules.proofs.Bounds.{PartFrom, part-bounds, part-from, part-over}
 use Rattle.walk_laws.proofs.Slices.{slice-part}
-use Rattle.walk.proofs.Turns.{Turn, start, next, done, over}
+use Rattle.walk_rules.proofs.Turns.{Turn, start, next, done, over}
 use Rattle.schema.specs.declared.Kind.{Kind}
 use Rattle.schema.specs.declared.Asked.{Asked}
 use Rattle.schema.specs.Steps.{askedOf}

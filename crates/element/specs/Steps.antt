@@ -10,10 +10,10 @@ use Rattle.ascii.specs.Texts.{bytes, same}
 use Rattle.values.specs.declared.Worth.{Worth}
 use Rattle.values.specs.Values.{worth}
 use Rattle.xml.specs.Shape.{Attribute}
-use Rattle.walk.specs.declared.TagPart.{TagPart}
-use Rattle.walk.specs.declared.Part.{Part}
-use Rattle.walk.specs.Steps as walk
-use Rattle.walk.specs.Text.{trimmed}
+use Rattle.walk_rules.specs.declared.TagPart.{TagPart}
+use Rattle.walk_rules.specs.declared.Part.{Part}
+use Rattle.walk_rules.specs.Steps as walk
+use Rattle.walk_rules.specs.Text.{trimmed}
 use Rattle.schema.specs.declared.Kind.{Kind}
 use Rattle.schema.specs.declared.Asked.{Asked}
 use Rattle.schema.specs.Schema.{_to_, rulesOf}

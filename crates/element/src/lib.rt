@@ -9,7 +9,7 @@ ghost use Rattle.element.specs.Steps.{nothing, put, unfit, judged, gathe
 use schema::Asked;
 use schema::Kind;
 use values::Worth;
-use walk::TagPart;
+use walk_rules::TagPart;
 
 // What the attributes of an element say: one is unknown or repeated (5), one has a bad value (6), one is not carried (7); by number of rule,
 // which are there and what they are worth.
@@ -89,11 +89,11 @@ fn judge(g: Gathered, asked: Asked, text: &[u8]) -> Gathered
 pub fn gather(file: &[u8], i: usize, kind: Kind) -> Gathered
     ensures { λ r. ⌜ r ≡ gathered kind (now (file .entry)) i ⌝ }
 {
-    let n = walk::name_of(file, i);
+    let n = tag_walk::name_of(file, i);
     let mut g = nothing();
     let mut j = n.to;
     while j < file.len() {
-        match walk::part_at(file, j) {
+        match tag_walk::part_at(file, j) {
             TagPart::Attribute(a, e, c, k) => {
                 let asked = demands::asked_of(kind, &file[a..e]);
                 g = judge(g, asked, &file[c..k]);

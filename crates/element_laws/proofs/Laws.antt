@@ -12,9 +12,9 @@ use Rattle.ascii.specs.Texts.{bytes, same}
 use Rattle.ascii.proofs.Cases.{by-cases}
 use Rattle.values.specs.Values.{worth}
 use Rattle.xml.specs.Shape.{Attribute, node, Items}
-use Rattle.walk.specs.Text.{joined, trimmed}
-use Rattle.walk.specs.Stands.{ElementAt}
-use Rattle.walk.specs.Steps as walk
+use Rattle.walk_rules.specs.Text.{joined, trimmed}
+use Rattle.walk_rules.specs.Stands.{ElementAt}
+use Rattle.walk_rules.specs.Steps as walk
 use Rattle.walk_laws.proofs.Laws.{element-law}
 use Rattle.schema.specs.declared.Kind.{Kind}
 use Rattle.schema.specs.Schema.{Parent, _to_, any, oneOf, rulesOf}

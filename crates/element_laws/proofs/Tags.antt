@@ -9,11 +9,11 @@ use lib.Seq.{slice}
 use Rattle.ascii.specs.Texts.{same}
 use Rattle.ascii.proofs.Cases.{by-cases}
 use Rattle.xml.specs.Shape.{Attribute, Items}
-use Rattle.walk.specs.declared.Part.{Part}
-use Rattle.walk.specs.declared.TagPart.{TagPart}
-use Rattle.walk.specs.Stands.{StartAt}
-use Rattle.walk.specs.Steps as walk
-use Rattle.walk.proofs.Bounds.{part-over}
+use Rattle.walk_rules.specs.declared.Part.{Part}
+use Rattle.walk_rules.specs.declared.TagPart.{TagPart}
+use Rattle.walk_rules.specs.Stands.{StartAt}
+use Rattle.walk_rules.specs.Steps as walk
+use Rattle.walk_rules.proofs.Bounds.{part-over}
 use Rattle.walk_laws.proofs.Laws.{PartTold, part-law}
 use Rattle.schema.specs.declared.Kind.{Kind}
 use Rattle.schema.specs.Schema.{any}

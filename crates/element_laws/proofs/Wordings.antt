@@ -6,7 +6,7 @@ use mathlib.Core.List.{List}
 use mathlib.Core.Bool.{Bool, true, false, not, cond, _&&_, _||_}
 use Rattle.ascii.specs.Texts.{bytes, same}
 use Rattle.ascii.proofs.Cases.{by-cases}
-use Rattle.walk.specs.Steps.{textOf, stray}
+use Rattle.walk_rules.specs.Steps.{textOf, stray}
 use Rattle.schema.specs.declared.Kind.{Kind}
 use Rattle.schema.specs.Steps.{nameOf}
 use Rattle.schema.proofs.Every.{everywhere}

@@ -1,18 +1,18 @@
 // Whole elements of a file of good shape: their text.
 //
-// Promises: `gather_text` and `has_text` are the functions of the bytes that specs/Steps.antt of `walk` gives, for every input; the crate walk_laws says what
+// Promises: `gather_text` and `has_text` are the functions of the bytes that specs/Steps.antt of `walk_rules` gives, for every input; the crate walk_laws says what
 // these are on a well-shaped file.
 // May not touch: what any name or value means.
 ghost use mathlib.Core.Path.{_≡_};
-ghost use Rattle.walk.specs.Steps.{contentAt, innerStart, textOf, stray, Laid};
-use walk::Body;
-use walk::Item;
+ghost use Rattle.walk_rules.specs.Steps.{contentAt, innerStart, textOf, stray, Laid};
+use walk_rules::Body;
+use walk_rules::Item;
 
 // Where the content of the element at i starts; the end of the file if it has none.
 fn inner_start(file: &[u8], i: usize) -> usize
     ensures { λ r. ⌜ r ≡ innerStart (now (file .entry)) (contentAt (now (file .entry)) i) ⌝ }
 {
-    match walk::content_at(file, i) {
+    match tag_walk::content_at(file, i) {
         Body::Open(o) => o,
         Body::Empty(_) => file.len(),
         Body::Broken => file.len(),

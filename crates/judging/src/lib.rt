@@ -7,7 +7,7 @@ ghost use mathlib.Core.Path.{_≡_};
 ghost use mathlib.Core.Bool.{false};
 ghost use lib.ListN.{getD};
 ghost use Rattle.ascii.specs.Texts.{bytes, same};
-ghost use Rattle.walk.specs.Text.{trimmed};
+ghost use Rattle.walk_rules.specs.Text.{trimmed};
 ghost use Rattle.element.specs.Element.{isBad};
 ghost use Rattle.element.specs.Steps.{lacksFirst, unpaired, lacking, idsCrossed, boundsCrossed, shortText, badText, misspelt, verdict, ownFault, tagFault};
 use element::Gathered;

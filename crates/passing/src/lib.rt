@@ -1,11 +1,11 @@
 // Whole elements of a file of good shape: what is behind one.
 //
-// Promises: `skip` is the function of the bytes that specs/Steps.antt of `walk` gives, for every input; the crate walk_laws says what that is on a well-shaped file.
+// Promises: `skip` is the function of the bytes that specs/Steps.antt of `walk_rules` gives, for every input; the crate walk_laws says what that is on a well-shaped file.
 // May not touch: what any name or value means.
 ghost use mathlib.Core.Path.{_≡_};
-ghost use Rattle.walk.specs.Steps.{skipFrom, skipped};
-use walk::Body;
-use walk::Item;
+ghost use Rattle.walk_rules.specs.Steps.{skipFrom, skipped};
+use walk_rules::Body;
+use walk_rules::Item;
 
 // The offset behind the element at i, in which elements nest at most `left` deep, itself included.
 fn skip_from(file: &[u8], i: usize, left: usize) -> usize
@@ -14,7 +14,7 @@ fn skip_from(file: &[u8], i: usize, left: usize) -> usize
     if left == 0 {
         return file.len();
     }
-    match walk::content_at(file, i) {
+    match tag_walk::content_at(file, i) {
         Body::Broken => file.len(),
         Body::Empty(e) => e,
         Body::Open(o) => {

@@ -4,14 +4,14 @@
 // May not touch: other elements, and whether an element has faults.
 ghost use mathlib.Core.Path.{_≡_};
 ghost use Rattle.values.specs.Values.{worth};
-ghost use Rattle.walk.specs.Text.{trimmed};
+ghost use Rattle.walk_rules.specs.Text.{trimmed};
 ghost use Rattle.schema.specs.Schema.{_to_};
 ghost use Rattle.element.specs.Steps.{numbered, valueAt};
 use single_text::Single;
 use values::Sort;
 use values::Worth;
-use walk::Part;
-use walk::TagPart;
+use walk_rules::Part;
+use walk_rules::TagPart;
 
 const LAST_CHANNEL: u32 = 4;
 
@@ -53,10 +53,10 @@ pub fn channel_number(file: &[u8], i: usize) -> Worth
 pub fn value_at(file: &[u8], i: usize, name: &[u8]) -> Part
     ensures { λ r. ⌜ r ≡ valueAt (now (name .entry)) (now (file .entry)) i ⌝ }
 {
-    let n = walk::name_of(file, i);
+    let n = tag_walk::name_of(file, i);
     let mut j = n.to;
     while j < file.len() {
-        match walk::part_at(file, j) {
+        match tag_walk::part_at(file, j) {
             TagPart::Attribute(a, e, c, k) => {
                 if ascii::same_text(&file[a..e], name) {
                     return Part { from: c, to: k };

@@ -14,7 +14,7 @@ use Rattle.ascii.proofs.Cases.{by-cases}
 use Rattle.xml.specs.declared.Shape.{Shape}
 use Rattle.xml.specs.declared.Shape.the-variants.{Whole, TooLong, Broken}
 use Rattle.xml.specs.Shape.{Node, node, WellShaped, Shaped, refusalOf}
-use Rattle.walk.specs.Steps.{rootAt}
+use Rattle.walk_rules.specs.Steps.{rootAt}
 use Rattle.walk_laws.proofs.Laws.{root-law, element-law}
 use Rattle.records.specs.Records.{Statement, triggerWords, filterWords, actionWord, statementWords, timeoutWord, triggerIn, filterIn}
 use Rattle.code.specs.Code.{soundCode}

@@ -4,8 +4,8 @@ use mathlib.Core.Path.{_≡_, sym, ap, _∙_}
 use mathlib.Core.List.{List}
 use mathlib.Core.Bool.{Bool, true, false, cond, _&&_}
 use lib.Dec.{leb}
-use Rattle.walk.specs.declared.Item.{Item}
-use Rattle.walk.specs.Steps.{itemAt}
+use Rattle.walk_rules.specs.declared.Item.{Item}
+use Rattle.walk_rules.specs.Steps.{itemAt}
 use Rattle.single_text.specs.declared.Single.{Single}
 use Rattle.single_text.specs.Steps.{isClose, runText, itemText}
 

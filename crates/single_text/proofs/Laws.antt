@@ -8,11 +8,11 @@ use borrow.Author.Tests.{leb-true}
 use lib.Dec.{leb}
 use lib.ListN.{length, take, drop}
 use lib.Seq.{slice, length-slice, take-all, take-nil}
-use Rattle.walk.specs.declared.Item.{Item}
-use Rattle.walk.specs.declared.Body.{Body}
-use Rattle.walk.specs.Steps.{itemAt, contentAt, walkItems, texting, innerStart, textOf}
-use Rattle.walk.proofs.Bounds.{item-from}
-use Rattle.walk.proofs.Turns.{walk-text, walk-close, walk-over}
+use Rattle.walk_rules.specs.declared.Item.{Item}
+use Rattle.walk_rules.specs.declared.Body.{Body}
+use Rattle.walk_rules.specs.Steps.{itemAt, contentAt, walkItems, texting, innerStart, textOf}
+use Rattle.walk_rules.proofs.Bounds.{item-from}
+use Rattle.walk_rules.proofs.Turns.{walk-text, walk-close, walk-over}
 use Rattle.walk_laws.proofs.Slices.{slice-part, slice-none}
 use Rattle.single_text.specs.declared.Single.{Single}
 use Rattle.single_text.specs.Steps.{isClose, runText, itemText, bodyText, singleText}

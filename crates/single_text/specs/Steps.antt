@@ -1,11 +1,11 @@
--- What the functions answer, for every input. Code-shaped, over specs/Steps.antt of `walk`; proofs/Laws.antt says what a part is. Nothing here has to be believed.
+-- What the functions answer, for every input. Code-shaped, over specs/Steps.antt of `walk_rules`; proofs/Laws.antt says what a part is. Nothing here has to be believed.
 use Prim.Native.Nat.{ℕ, _-_}
 use mathlib.Core.List.{List}
 use mathlib.Core.Bool.{Bool, true, false, cond, _&&_}
 use lib.Dec.{leb}
-use Rattle.walk.specs.declared.Item.{Item}
-use Rattle.walk.specs.declared.Body.{Body}
-use Rattle.walk.specs.Steps.{itemAt, contentAt}
+use Rattle.walk_rules.specs.declared.Item.{Item}
+use Rattle.walk_rules.specs.declared.Body.{Body}
+use Rattle.walk_rules.specs.Steps.{itemAt, contentAt}
 use Rattle.single_text.specs.declared.Single.{Single}
 
 unfoldable pub isClose : Item → Bool

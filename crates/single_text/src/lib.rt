@@ -5,9 +5,9 @@
 // May not touch: what any name or value means.
 ghost use mathlib.Core.Path.{_≡_};
 ghost use Rattle.single_text.specs.Steps.{isClose, itemText, singleText};
-ghost use Rattle.walk.specs.Steps.{itemAt};
-use walk::Body;
-use walk::Item;
+ghost use Rattle.walk_rules.specs.Steps.{itemAt};
+use walk_rules::Body;
+use walk_rules::Item;
 
 // The size of the buffer that a text in pieces is joined in.
 const MOST: usize = 32768;
@@ -56,7 +56,7 @@ fn content_text(file: &[u8], o: usize) -> Single
 pub fn single_text(file: &[u8], i: usize) -> Single
     ensures { λ r. ⌜ r ≡ singleText (now (file .entry)) i ⌝ }
 {
-    match walk::content_at(file, i) {
+    match tag_walk::content_at(file, i) {
         Body::Open(o) => content_text(file, o),
         Body::Empty(_) => Single::Part(0, 0),
         Body::Broken => Single::Pieces,

@@ -16,7 +16,7 @@ use Rattle.values.specs.declared.Number.{Number}
 use Rattle.values.specs.declared.Number.the-variants.{Value, Nothing}
 use Rattle.values.specs.Values.{number, ranged, worth}
 use Rattle.xml.specs.Shape.{Attribute}
-use Rattle.walk.specs.declared.Part.{Part}
+use Rattle.walk_rules.specs.declared.Part.{Part}
 use Rattle.schema.specs.declared.Kind.{Kind}
 use Rattle.schema.specs.declared.Kind.the-variants.{Mode, Parameters, MsgId, MsgDlc, ErrorFrame, Startup}
 use Rattle.schema.specs.Schema.{Rule, _to_, parents, parentIn, any, elements, rulesIn, rulesOf}

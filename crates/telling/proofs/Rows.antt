@@ -13,7 +13,7 @@ use borrow.Author.Tests.{leb-true, lt-ltb, le-ltb}
 use Rattle.ascii.specs.Texts.{bytes, same}
 use Rattle.records.specs.declared.Trigger.{Trigger}
 use Rattle.records.specs.declared.Filter.{Filter}
-use Rattle.walk.specs.declared.Part.{Part}
+use Rattle.walk_rules.specs.declared.Part.{Part}
 use Rattle.schema.specs.Schema.{parents, parentIn, any}
 use Rattle.schema.specs.Steps.{nameOf}
 use Rattle.schema.specs.declared.Kind.{Kind}

@@ -11,7 +11,7 @@ use Rattle.records.specs.declared.Timeout.the-variants.{Forever}
 use Rattle.records.specs.declared.Trigger.{Trigger}
 use Rattle.records.specs.declared.Effect.the-variants.{Pass}
 use Rattle.records.specs.declared.Filter.{Filter}
-use Rattle.walk.specs.declared.Part.{Part}
+use Rattle.walk_rules.specs.declared.Part.{Part}
 use Rattle.schema.specs.declared.Kind.{Kind}
 use Rattle.schema.specs.Schema.{oneOf, under}
 use Rattle.schema.specs.Steps.{nameOf}

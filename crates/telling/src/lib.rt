@@ -19,7 +19,7 @@ use records::Timeout;
 use records::Trigger;
 use schema::Kind;
 use values::Worth;
-use walk::Part;
+use walk_rules::Part;
 use writer::Actions;
 use writer::Filters;
 use writer::Triggers;

@@ -1,10 +1,10 @@
 // The blanks at both ends of a text.
 //
-// Promises: `trim` is the function of the bytes that specs/Steps.antt of `walk` gives, for every input.
+// Promises: `trim` is the function of the bytes that specs/Steps.antt of `walk_rules` gives, for every input.
 // May not touch: what any text means.
 ghost use mathlib.Core.Path.{_≡_};
-ghost use Rattle.walk.specs.Steps.{trimAt};
-use walk::Part;
+ghost use Rattle.walk_rules.specs.Steps.{trimAt};
+use walk_rules::Part;
 
 // The part of a text between the blanks at both ends.
 pub fn trim(text: &[u8]) -> Part

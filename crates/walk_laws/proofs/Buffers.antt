@@ -8,7 +8,7 @@ use lib.ListN.{length, getD, take, drop, set, length-append, length-drop, length
 use lib.Seq.{take-all, take-suc, take-at, drop-at, drop-drop, set-at, append-snoc, length-take-le, take-append-add, take-append-le, take-nil}
 use Rattle.ascii.proofs.Cases.{le-or-lt}
 use Rattle.ascii.proofs.Spans.{drop-one}
-use Rattle.walk.specs.Steps.{Laid}
+use Rattle.walk_rules.specs.Steps.{Laid}
 
 -- the first n bytes of t are at the front of d
 pub record Filled (t d : List ℕ) (n : ℕ) (e : List ℕ) : Type 0 where

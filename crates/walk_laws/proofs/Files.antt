@@ -8,12 +8,12 @@ use lib.ListN.{length, drop}
 use Rattle.letters.specs.Kinds.{isBlank, isStart, isDecl}
 use Rattle.ascii.proofs.Spans.{low-of}
 use Rattle.xml.specs.Shape.{Run, Remark, Comment, Misc, Prolog}
-use Rattle.walk.specs.declared.Item.{Item}
-use Rattle.walk.specs.Steps.{past, itemAt, prologEnd, miscFrom, rootAt}
-use Rattle.walk.proofs.Places.{here, ahead-in}
-use Rattle.walk.proofs.Answers.{prolog-first, prolog-second, prolog-third}
-use Rattle.walk.proofs.Bounds.{item-from}
-use Rattle.walk.proofs.Turns.{misc-other, misc-remark}
+use Rattle.walk_rules.specs.declared.Item.{Item}
+use Rattle.walk_rules.specs.Steps.{past, itemAt, prologEnd, miscFrom, rootAt}
+use Rattle.walk_rules.proofs.Places.{here, ahead-in}
+use Rattle.walk_rules.proofs.Answers.{prolog-first, prolog-second, prolog-third}
+use Rattle.walk_rules.proofs.Bounds.{item-from}
+use Rattle.walk_rules.proofs.Turns.{misc-other, misc-remark}
 use Rattle.walk_laws.proofs.Runs.{apart, Stops, stops, run-law, on-two}
 use Rattle.walk_laws.proofs.Items.{Tagged, comment-stop, tagged-stop, comment-item, tagged-item}
 

@@ -8,11 +8,11 @@ use lib.ListN.{drop}
 use lib.Seq.{slice}
 use Rattle.letters.specs.Kinds.{isBlank, isStart, isDigit, isName, isText}
 use Rattle.xml.specs.Shape.{Node, Items, Run, Name, Remark, Comment, Content, Element-of, Element}
-use Rattle.walk.specs.declared.Item.{Item}
-use Rattle.walk.specs.Stands.{Closing, texted}
-use Rattle.walk.specs.Steps.{past, ahead, remarkEnd, itemAt}
-use Rattle.walk.proofs.Places.{here, ahead-in}
-use Rattle.walk.proofs.Answers.{item-text, item-close, item-remark, item-child}
+use Rattle.walk_rules.specs.declared.Item.{Item}
+use Rattle.walk_rules.specs.Stands.{Closing, texted}
+use Rattle.walk_rules.specs.Steps.{past, ahead, remarkEnd, itemAt}
+use Rattle.walk_rules.proofs.Places.{here, ahead-in}
+use Rattle.walk_rules.proofs.Answers.{item-text, item-close, item-remark, item-child}
 use Rattle.walk_laws.proofs.Runs.{apart, Stops, stops, run-law, on-one, on-two, name-run, Letter, letter, run-behind, blanks-stop, remark-law}
 
 -- a text that starts as an element does

@@ -8,14 +8,14 @@ use mathlib.Core.Logic.{_↔_}
 use lib.ListN.{length, drop}
 use lib.Seq.{slice}
 use Rattle.xml.specs.Shape.{Attribute, Node, node, Items, Element, WellShaped}
-use Rattle.walk.specs.declared.TagPart.{TagPart}
-use Rattle.walk.specs.declared.Item.{Item}
-use Rattle.walk.specs.declared.Body.{Body}
-use Rattle.walk.specs.Text.{joined, trimmed}
-use Rattle.walk.specs.Stands.{ElementAt, ContentAt, StartAt, texted}
-use Rattle.walk.specs.Steps.{partAt, itemAt, nameOf, contentAt, skipFrom, skipped, rootAt, textOf, stray}
-use Rattle.walk.proofs.Places.{here, same-place, ahead-in}
-use Rattle.walk.proofs.Bounds.{part-from, item-from, BodyFrom, content-bounds, skip-bounds}
+use Rattle.walk_rules.specs.declared.TagPart.{TagPart}
+use Rattle.walk_rules.specs.declared.Item.{Item}
+use Rattle.walk_rules.specs.declared.Body.{Body}
+use Rattle.walk_rules.specs.Text.{joined, trimmed}
+use Rattle.walk_rules.specs.Stands.{ElementAt, ContentAt, StartAt, texted}
+use Rattle.walk_rules.specs.Steps.{partAt, itemAt, nameOf, contentAt, skipFrom, skipped, rootAt, textOf, stray}
+use Rattle.walk_rules.proofs.Places.{here, same-place, ahead-in}
+use Rattle.walk_rules.proofs.Bounds.{part-from, item-from, BodyFrom, content-bounds, skip-bounds}
 use Rattle.walk_laws.proofs.Items.{tagged, ItemIs, item-is}
 use Rattle.walk_laws.proofs.Tags.{PartIs, part-is, BodyIs}
 use Rattle.walk_laws.proofs.Walks.{element-is, content-is, skips, texts-of}

@@ -10,10 +10,10 @@ use lib.Seq.{slice, drop-drop, drop-append-seam, take-append-seam}
 use Rattle.letters.specs.Kinds.{among, isBlank, isStart, isName, spanAt}
 use Rattle.xml.proofs.Bytes.{blank-not-name, start-is-name, start-not-blank}
 use Rattle.xml.specs.Shape.{Attribute, Run, Name, Attributes, Spelled, Remark}
-use Rattle.walk.specs.Steps.{past, ahead, closing, remarkEnd}
-use Rattle.walk.proofs.Places.{here, ahead-in}
-use Rattle.walk.proofs.Answers.{closing-first, closing-second, closing-third}
-use Rattle.walk.proofs.Bounds.{end-here, end-more}
+use Rattle.walk_rules.specs.Steps.{past, ahead, closing, remarkEnd}
+use Rattle.walk_rules.proofs.Places.{here, ahead-in}
+use Rattle.walk_rules.proofs.Answers.{closing-first, closing-second, closing-third}
+use Rattle.walk_rules.proofs.Bounds.{end-here, end-more}
 use Rattle.walk_laws.proofs.Slices.{slice-take}
 
 -- a byte of a kind is none that is not of the kind

@@ -9,10 +9,10 @@ use lib.Seq.{slice}
 use Rattle.letters.specs.Kinds.{isBlank}
 use Rattle.ascii.proofs.Cases.{by-cases, le-or-lt}
 use Rattle.ascii.proofs.Spans.{downward, span-more, span-here, span-end, span-low}
-use Rattle.walk.specs.declared.Item.{Item}
-use Rattle.walk.specs.Steps.{past, itemAt, contentAt, walkItems, texting, innerStart, textOf, stray, Laid}
-use Rattle.walk.proofs.Bounds.{item-from}
-use Rattle.walk.proofs.Turns.{Turn, start, on-text}
+use Rattle.walk_rules.specs.declared.Item.{Item}
+use Rattle.walk_rules.specs.Steps.{past, itemAt, contentAt, walkItems, texting, innerStart, textOf, stray, Laid}
+use Rattle.walk_rules.proofs.Bounds.{item-from}
+use Rattle.walk_rules.proofs.Turns.{Turn, start, on-text}
 use Rattle.walk_laws.proofs.Slices.{slice-none, slice-one, slice-part}
 use Rattle.walk_laws.proofs.Buffers.{laid-none, laid-more}
 

@@ -8,14 +8,14 @@ use lib.ListN.{length, drop, length-drop}
 use lib.Seq.{slice}
 use Rattle.letters.specs.Kinds.{isBlank, isStart, isDigit, isName, isValue}
 use Rattle.xml.specs.Shape.{Attribute, Node, node, Items, Run, Name, Attributes, Spelled, Element-of}
-use Rattle.walk.specs.declared.TagPart.{TagPart}
-use Rattle.walk.specs.declared.Body.{Body}
-use Rattle.walk.specs.Stands.{Closing, Tail}
-use Rattle.walk.specs.Steps.{past, ahead, attributeAt, partAt, nameOf, contentFrom}
-use Rattle.walk.proofs.Places.{here, ahead-in}
-use Rattle.walk.proofs.Answers.{attribute-closed, part-open, part-empty, part-attribute}
-use Rattle.walk.proofs.Bounds.{part-from, part-over}
-use Rattle.walk.proofs.Turns.{content-next, content-open, content-empty}
+use Rattle.walk_rules.specs.declared.TagPart.{TagPart}
+use Rattle.walk_rules.specs.declared.Body.{Body}
+use Rattle.walk_rules.specs.Stands.{Closing, Tail}
+use Rattle.walk_rules.specs.Steps.{past, ahead, attributeAt, partAt, nameOf, contentFrom}
+use Rattle.walk_rules.proofs.Places.{here, ahead-in}
+use Rattle.walk_rules.proofs.Answers.{attribute-closed, part-open, part-empty, part-attribute}
+use Rattle.walk_rules.proofs.Bounds.{part-from, part-over}
+use Rattle.walk_rules.proofs.Turns.{content-next, content-open, content-empty}
 use Rattle.walk_laws.proofs.Runs.{apart, Stops, stops, run-law, on-one, on-two, name-run, letter, letter-stops, blanks-stop, attributes-stop}
 use Rattle.walk_laws.proofs.Items.{name-no-close, blank-no-close, start-no-slash}
 

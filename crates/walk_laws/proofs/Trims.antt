@@ -10,9 +10,9 @@ use lib.Seq.{slice, length-slice}
 use Rattle.letters.specs.Kinds.{isBlank}
 use Rattle.ascii.proofs.Cases.{by-cases}
 use Rattle.ascii.proofs.Spans.{drop-one, downward, span-more, span-here, span-end, high-of}
-use Rattle.walk.specs.declared.Part.{Part}
-use Rattle.walk.specs.Text.{clipped, cropped, trimmed}
-use Rattle.walk.specs.Steps.{past, stray, trimAt}
+use Rattle.walk_rules.specs.declared.Part.{Part}
+use Rattle.walk_rules.specs.Text.{clipped, cropped, trimmed}
+use Rattle.walk_rules.specs.Steps.{past, stray, trimAt}
 use Rattle.walk_laws.proofs.Slices.{slice-take, slice-none, slice-snoc, slice-rest}
 use Rattle.walk_laws.proofs.Strays.{stray-pass, stray-stop}
 

@@ -6,13 +6,13 @@ use mathlib.Core.List.{List, [], _∷_, _++_}
 use lib.ListN.{length, drop}
 use lib.Seq.{slice}
 use Rattle.xml.specs.Shape.{Attribute, Node, node, Items, Element}
-use Rattle.walk.specs.declared.Item.{Item}
-use Rattle.walk.specs.declared.Body.{Body}
-use Rattle.walk.specs.Text.{joined}
-use Rattle.walk.specs.Stands.{Closing, texted}
-use Rattle.walk.specs.Steps.{itemAt, nameOf, contentAt, Walk, walkItems, skipping, skipBody, skipFrom, skipped, texting, innerStart, textOf}
-use Rattle.walk.proofs.Bounds.{item-from, item-over, skip-bounds}
-use Rattle.walk.proofs.Turns.{walk-text, walk-remark, walk-child, walk-close, walk-over}
+use Rattle.walk_rules.specs.declared.Item.{Item}
+use Rattle.walk_rules.specs.declared.Body.{Body}
+use Rattle.walk_rules.specs.Text.{joined}
+use Rattle.walk_rules.specs.Stands.{Closing, texted}
+use Rattle.walk_rules.specs.Steps.{itemAt, nameOf, contentAt, Walk, walkItems, skipping, skipBody, skipFrom, skipped, texting, innerStart, textOf}
+use Rattle.walk_rules.proofs.Bounds.{item-from, item-over, skip-bounds}
+use Rattle.walk_rules.proofs.Turns.{walk-text, walk-remark, walk-child, walk-close, walk-over}
 use Rattle.walk_laws.proofs.Items.{tagged, ItemIs, item-is}
 use Rattle.walk_laws.proofs.Tags.{BodyIs, body-is, NodeIs, node-is}
 

@@ -7,7 +7,7 @@ use mathlib.Core.Path.{ap, sym, _∙_}
 use mathlib.Core.List.{List}
 use native.Mathlib.Omega.{arith}
 use lib.ListN.{length-replicate}
-use Rattle.walk.specs.Text.{trimmed}
+use Rattle.walk_rules.specs.Text.{trimmed}
 use Rattle.single_text.proofs.Laws.{single-bounds, single-part}
 use Rattle.grammar.specs.Steps.{compiled}
 use Rattle.element.proofs.Texts.{laid-within, laid-count, laid-taken}

@@ -22,7 +22,7 @@ use Rattle.document.proofs.pass.Reads as pass-reads
 use Rattle.document.proofs.refused.Reads as refused-reads
 use Rattle.document.proofs.tag_fault_at.Reads as tag-fault-at-reads
 use Rattle.runs.proofs.blanks_end.Reads as blanks-end-reads
-use Rattle.walk.proofs.content_at.Reads as content-at-reads
+use Rattle.tag_walk.proofs.content_at.Reads as content-at-reads
 use Rattle.walk.proofs.item_at.Reads as item-at-reads
 use Rattle.document.proofs.+visit+visit_inside.{statement}
 use Rattle.document.proofs.+visit+visit_inside.Tie.{close}
@@ -30,8 +30,8 @@ use Prim.Native.Nat.{_-_, _+_, _*_}
 use mathlib.Core.Path.{_≡_, refl, sym, ap, _∙_}
 use native.Mathlib.Omega.{arith}
 use lib.ListN.{length}
-use Rattle.walk.specs.Steps.{contentAt, skipped}
-use Rattle.walk.proofs.Bounds.{item-from, skipped-bounds}
+use Rattle.walk_rules.specs.Steps.{contentAt, skipped}
+use Rattle.walk_rules.proofs.Bounds.{item-from, skipped-bounds}
 use Rattle.document_rules.specs.Steps.{Found, visitBody, visitFrom, found}
 use Rattle.document_rules.proofs.Turns.{visit-past, visit-fault, visit-good, tag-fault-kept, stray-fault, no-fault, refused-same}
 use Rattle.document_rules.proofs.Insides.{ready-deep, ready-inside, inside-moved, Inner, inner-start, empty-leaves, broken-none, inner-over, inner-broken, inner-text, inner-remark, child-ready, inner-child, inner-leaves}

@@ -6,9 +6,9 @@ use mathlib.Core.Path.{sym, _∙_}
 use mathlib.Core.List.{_++_}
 use native.Mathlib.Omega.{arith}
 use lib.ListN.{length, take, drop, length-take}
-use Rattle.walk.specs.Steps.{texting}
-use Rattle.walk.proofs.Bounds.{item-from, skipped-bounds}
-use Rattle.walk.proofs.Turns.{on-remark, on-child, on-close, on-broken, on-end}
+use Rattle.walk_rules.specs.Steps.{texting}
+use Rattle.walk_rules.proofs.Bounds.{item-from, skipped-bounds}
+use Rattle.walk_rules.proofs.Turns.{on-remark, on-child, on-close, on-broken, on-end}
 use Rattle.walk_laws.proofs.Buffers.{laid-room, laid-long}
 use Rattle.walk_laws.proofs.Strays.{Gathered, gather-start, gather-text, gather-to, gather-done}
 use borrow.Author.Needs.{needs}

@@ -5,9 +5,9 @@ use Prim.Native.Nat.{_-_}
 use mathlib.Core.Path.{sym, _∙_}
 use native.Mathlib.Omega.{arith}
 use lib.ListN.{length}
-use Rattle.walk.specs.Steps.{texting, stray}
-use Rattle.walk.proofs.Bounds.{item-from, skipped-bounds}
-use Rattle.walk.proofs.Turns.{on-remark, on-child, on-close, on-broken, on-end}
+use Rattle.walk_rules.specs.Steps.{texting, stray}
+use Rattle.walk_rules.proofs.Bounds.{item-from, skipped-bounds}
+use Rattle.walk_rules.proofs.Turns.{on-remark, on-child, on-close, on-broken, on-end}
 use Rattle.walk_laws.proofs.Strays.{StrayTurn, stray-start, stray-is, stray-on}
 use borrow.Author.Needs.{needs}
 

@@ -3,7 +3,7 @@ use borrow.Author.Needs.{needs}
 use Rattle.gathering.proofs.inner_start.Statement.{statement}
 use Rattle.gathering.proofs.inner_start.Tie as tie
 use mathlib.Core.Path.{ap, sym, _∙_}
-use Rattle.walk.specs.Steps.{innerStart}
+use Rattle.walk_rules.specs.Steps.{innerStart}
 
 content-at-requires : tie.Need-content-at-requires
 content-at-requires c κs = search needs

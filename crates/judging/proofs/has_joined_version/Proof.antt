@@ -7,7 +7,7 @@ use mathlib.Core.Path.{ap, _∙_}
 use mathlib.Core.List.{List}
 use lib.ListN.{length-replicate}
 use Rattle.ascii.specs.Texts.{bytes, same}
-use Rattle.walk.specs.Text.{trimmed}
+use Rattle.walk_rules.specs.Text.{trimmed}
 use Rattle.element.proofs.Texts.{laid-within, laid-count, laid-taken}
 
 slice-aggregate-gather-text : tie.Need-slice-aggregate-gather-text

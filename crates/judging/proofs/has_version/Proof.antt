@@ -7,7 +7,7 @@ use mathlib.Core.Path.{ap, sym, _∙_}
 use mathlib.Core.List.{List}
 use native.Mathlib.Omega.{arith}
 use Rattle.ascii.specs.Texts.{bytes, same}
-use Rattle.walk.specs.Text.{trimmed}
+use Rattle.walk_rules.specs.Text.{trimmed}
 use Rattle.single_text.proofs.Laws.{single-bounds, single-part}
 
 single-text-requires : tie.Need-single-text-requires

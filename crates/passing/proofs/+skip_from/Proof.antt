@@ -5,7 +5,7 @@ use borrow.Fn.PlainCycle.{Measures, is, falls, and}
 use Rattle.passing.proofs.skip_from.Reads as skip-from
 use Rattle.passing.proofs.skip_from.Kinds as skip-from-kinds
 use Rattle.passing.proofs.+skip_from.Lts-skip_from as skip-from-lts
-use Rattle.walk.proofs.content_at.Reads as content-at-reads
+use Rattle.tag_walk.proofs.content_at.Reads as content-at-reads
 use Rattle.walk.proofs.item_at.Reads as item-at-reads
 use Rattle.passing.proofs.+skip_from.{statement}
 use Rattle.passing.proofs.+skip_from.Tie.{close}
@@ -13,9 +13,9 @@ use Prim.Native.Nat.{_-_}
 use mathlib.Core.Path.{refl, sym, _∙_}
 use native.Mathlib.Omega.{arith}
 use lib.ListN.{length}
-use Rattle.walk.specs.Steps.{skipping, skipFrom}
-use Rattle.walk.proofs.Bounds.{item-from, skip-from-bounds}
-use Rattle.walk.proofs.Turns.{SkipTurn, skip-none, skip-open, skip-empty, skip-broken, on-text, on-remark, on-child, on-close, on-broken, on-end}
+use Rattle.walk_rules.specs.Steps.{skipping, skipFrom}
+use Rattle.walk_rules.proofs.Bounds.{item-from, skip-from-bounds}
+use Rattle.walk_rules.proofs.Turns.{SkipTurn, skip-none, skip-open, skip-empty, skip-broken, on-text, on-remark, on-child, on-close, on-broken, on-end}
 use borrow.Author.Needs.{needs}
 
 abbrev μ-skip-from : Measures 1 skip-from-kinds.ps ℕ

@@ -2,7 +2,7 @@
 use borrow.Author.Needs.{needs}
 use Rattle.passing.proofs.skip.Statement.{statement}
 use Rattle.passing.proofs.skip.Tie as tie
-use Rattle.walk.specs.Steps.{skipped}
+use Rattle.walk_rules.specs.Steps.{skipped}
 
 skip-from-requires : tie.Need-skip-from-requires
 skip-from-requires c κs = search needs

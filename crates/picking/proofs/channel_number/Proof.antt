@@ -8,7 +8,7 @@ use mathlib.Core.List.{List}
 use native.Mathlib.Omega.{arith}
 use Rattle.values.specs.Values.{worth}
 use Rattle.schema.specs.Schema.{_to_}
-use Rattle.walk.specs.Text.{trimmed}
+use Rattle.walk_rules.specs.Text.{trimmed}
 use Rattle.single_text.proofs.Laws.{single-bounds, single-part}
 
 single-text-requires : tie.Need-single-text-requires

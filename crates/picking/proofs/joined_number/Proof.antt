@@ -8,7 +8,7 @@ use mathlib.Core.List.{List}
 use lib.ListN.{length-replicate}
 use Rattle.values.specs.Values.{worth}
 use Rattle.schema.specs.Schema.{_to_}
-use Rattle.walk.specs.Text.{trimmed}
+use Rattle.walk_rules.specs.Text.{trimmed}
 use Rattle.element.proofs.Texts.{laid-within, laid-count, laid-taken}
 
 slice-aggregate-gather-text : tie.Need-slice-aggregate-gather-text

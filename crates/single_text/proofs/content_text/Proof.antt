@@ -4,7 +4,7 @@ use Rattle.single_text.proofs.content_text.Statement.{statement}
 use Rattle.single_text.proofs.content_text.Tie as tie
 use mathlib.Core.Path.{ap, sym, _∙_}
 use native.Mathlib.Omega.{arith}
-use Rattle.walk.proofs.Bounds.{item-from}
+use Rattle.walk_rules.proofs.Bounds.{item-from}
 use Rattle.single_text.specs.Steps.{itemText}
 use Rattle.single_text.proofs.Answers.{run-fits, run-fits-not}
 

@@ -5,7 +5,7 @@ use Rattle.walk.proofs.closes.Tie as tie
 use mathlib.Core.Path.{sym}
 use native.Mathlib.Omega.{arith}
 use Prim.Native.Nat.{_+_}
-use Rattle.walk.proofs.Answers.{read-inside, closing-first, closing-second, closing-third}
+use Rattle.walk_rules.proofs.Answers.{read-inside, closing-first, closing-second, closing-third}
 
 byte-at-requires : tie.Need-byte-at-requires
 byte-at-requires c κs = search needs

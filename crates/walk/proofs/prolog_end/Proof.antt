@@ -3,7 +3,7 @@ use borrow.Author.Needs.{needs}
 use Rattle.walk.proofs.prolog_end.Statement.{statement}
 use Rattle.walk.proofs.prolog_end.Tie as tie
 use mathlib.Core.Path.{sym, _∙_}
-use Rattle.walk.proofs.Answers.{prolog-first, prolog-second, prolog-third}
+use Rattle.walk_rules.proofs.Answers.{prolog-first, prolog-second, prolog-third}
 
 byte-at-requires : tie.Need-byte-at-requires
 byte-at-requires c κs = search needs

@@ -5,8 +5,8 @@ use Prim.Native.Nat.{_-_}
 use mathlib.Core.Path.{_≡_, refl, sym, _∙_}
 use native.Mathlib.Omega.{arith}
 use lib.ListN.{length, drop}
-use Rattle.walk.specs.Steps.{remarkEnd}
-use Rattle.walk.proofs.Bounds.{closing-inside, end-here, end-more, end-over}
+use Rattle.walk_rules.specs.Steps.{remarkEnd}
+use Rattle.walk_rules.proofs.Bounds.{closing-inside, end-here, end-more, end-over}
 use borrow.Author.Needs.{needs}
 
 abbrev Inv-loop : tie.InvT-loop

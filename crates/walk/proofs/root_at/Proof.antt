@@ -7,9 +7,9 @@ use native.Mathlib.Omega.{arith}
 use lib.ListN.{length}
 use Rattle.letters.specs.Kinds.{isBlank}
 use Rattle.ascii.proofs.Spans.{low-of}
-use Rattle.walk.specs.Steps.{miscFrom, rootAt}
-use Rattle.walk.proofs.Bounds.{item-from}
-use Rattle.walk.proofs.Turns.{Turn, root-start, root-again, root-here, root-over}
+use Rattle.walk_rules.specs.Steps.{miscFrom, rootAt}
+use Rattle.walk_rules.proofs.Bounds.{item-from}
+use Rattle.walk_rules.proofs.Turns.{Turn, root-start, root-again, root-here, root-over}
 use borrow.Author.Needs.{needs}
 
 abbrev Inv-loop : tie.InvT-loop
