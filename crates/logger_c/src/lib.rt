@@ -4,7 +4,7 @@
 // event. Neither keeps anything between calls.
 // May not touch: files, XML.
 ghost use mathlib.Core.Path.{_≡_};
-ghost use Rattle.engine.specs.Replay.{howMany, Replays};
+ghost use Rattle.replaying.specs.Replay.{howMany, Replays};
 ghost use Rattle.logger_c.specs.Calls.{Loading, countsOf};
 use loader::Loaded;
 use rules::Counts;
@@ -40,6 +40,6 @@ pub extern "C" fn steamfiddle_replay(
         stopped,
         halted,
     };
-    let n = engine::replay::replay(plan, events, counts, out);
+    let n = replaying::replay(plan, events, counts, out);
     n as u64
 }

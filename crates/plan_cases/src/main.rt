@@ -1,10 +1,11 @@
-// Runs `printing::print_plan` on many files and prints what each gives.
+// Runs `printing::print_answer` for `Form::Plan` on many files and prints what each gives.
 //
 // Promises: nothing but that it ends and touches no byte out of range; what it prints is held to the stored output.
 // The input has for each case a line `N text`, right behind it the N bytes of a file, and a line end.
 ghost use Prim.Native.Nat.{_+_, _≤_, min};
 ghost use mathlib.Core.Path.{_≡_};
 ghost use lib.ListN.{length};
+use printing::Form;
 
 const STDIN: i32 = 0;
 
@@ -44,7 +45,7 @@ fn behind(s: &[u8], i: usize, n: usize) -> usize
 
 fn show(title: &[u8], file: &[u8], words: &mut [u32]) {
     let mut text = io::buffer();
-    let n = printing::print_plan(file, words, &mut text);
+    let n = printing::print_answer(Form::Plan, file, words, &mut text);
     io::write_all(STDOUT, b"#");
     io::write_all(STDOUT, title);
     io::write_all(STDOUT, b"\n");

@@ -1,4 +1,4 @@
--- The contracts of `print_plan` and `print_words` settle the number, the words and the text.
+-- The contract of `print_answer` settles the number, the words and the text.
 use Prim.Native.Nat.{ℕ, min}
 use mathlib.Core.Path.{_≡_, ap}
 use mathlib.Core.List.{List}

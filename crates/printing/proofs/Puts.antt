@@ -12,9 +12,11 @@ use lib.Seq.{take-all, take-nil, take-suc, take-append-le, drop-cons, set-at, ap
 use borrow.Author.Tests.{lt-ltb, le-ltb}
 use Rattle.ascii.specs.Texts.{bytes}
 use Rattle.converter.specs.declared.Converted.{Converted}
-use Rattle.converter.specs.declared.Converted.the-variants.{Words}
+use Rattle.converter.specs.declared.Converted.the-variants.{Words, Refused}
 use Rattle.converter.specs.Converter.{Converts}
-use Rattle.printing.specs.Printing.{digitsOf, decimal, line, planText, wordLines, printed, Prints, prints}
+use Rattle.printing.specs.declared.Form.{Form}
+use Rattle.printing.specs.declared.Form.the-variants as forms
+use Rattle.printing.specs.Printing.{digitsOf, decimal, line, refusalText, planText, wordLines, wordsText, textOf, printed, Prints, prints}
 use Rattle.printing.specs.Steps.{Put, Adds}
 
 -- where the whole text fits
@@ -155,5 +157,22 @@ unfolding planText
 summed ws n pa pb pc pf pg x1 x2 x3 x4 x5 x6 = rw (← pa, ← pb, ← pc, ← pf, ← pg) (adds-all (adds-more x1 (adds-more x2 (adds-more x3 (adds-more x4 (adds-more x5 x6))))))
 
 -- ---- the answer of `convert`, told
-pub told : {say : Converted → List ℕ → List ℕ} {s d e t f : List ℕ} {a b : Converted} {r : ℕ} → Converts s d a e → a ≡ b → Put (say b e) t r f → Prints say s d t r e f
+told : {say : Converted → List ℕ → List ℕ} {s d e t f : List ℕ} {a b : Converted} {r : ℕ} → Converts s d a e → a ≡ b → Put (say b e) t r f → Prints say s d t r e f
 told {say} {s} {d} {e} {t} {f} {a} {b} {r} h q p = rw (p .count, p .text) (prints b e (rw q at h))
+
+module _ {form : Form} {s d e t f : List ℕ} {a : Converted} {r n : ℕ} (h : Converts s d a e) where
+  pub told-plan : a ≡ Words n → form ≡ forms.Plan → Put (planText (Words n) e) t r f → Prints (textOf form) s d t r e f
+  unfolding textOf
+  told-plan q g p = rw g (told h q p)
+
+  pub told-words : a ≡ Words n → form ≡ forms.Words → Put (wordLines (take n e)) t r f → Prints (textOf form) s d t r e f
+  unfolding textOf wordsText
+  told-words q g p = rw g (told h q p)
+
+refused-alike : (form : Form) (n p : ℕ) (ws : List ℕ) → refusalText n p ≡ textOf form (Refused n p) ws
+unfolding textOf planText wordsText
+refused-alike forms.Plan n p ws = refl
+refused-alike forms.Words n p ws = refl
+
+pub told-refusal : (form : Form) {s d e t f : List ℕ} {a : Converted} {r n p : ℕ} → Converts s d a e → a ≡ Refused n p → Put (refusalText n p) t r f → Prints (textOf form) s d t r e f
+told-refusal form {e = e} {n = n} {p} h q w = told h q (rw (← refused-alike form n p e) w)

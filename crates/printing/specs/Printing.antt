@@ -9,6 +9,8 @@ use Rattle.ascii.specs.Texts.{bytes}
 use Rattle.converter.specs.declared.Converted.{Converted}
 use Rattle.converter.specs.declared.Converted.the-variants.{Words, Refused}
 use Rattle.converter.specs.Converter.{Converts}
+use Rattle.printing.specs.declared.Form.{Form}
+use Rattle.printing.specs.declared.Form.the-variants as forms
 
 -- the decimal digits of n, where it has at most k; no 0 in front
 unfoldable pub digitsOf : ℕ → ℕ → List ℕ
@@ -42,6 +44,11 @@ wordLines (w ∷ ws) = line "" w ++ wordLines ws
 unfoldable pub wordsText : Converted → List ℕ → List ℕ
 wordsText (Words n) ws = wordLines (take n ws)
 wordsText (Refused n p) ws = refusalText n p
+
+-- the program `plan`, the program `convert`
+unfoldable pub textOf : Form → Converted → List ℕ → List ℕ
+textOf forms.Plan = planText
+textOf forms.Words = wordsText
 
 -- as much of a text as there is room for, and behind it what was there
 unfoldable pub printed : List ℕ → List ℕ → List ℕ

@@ -1,4 +1,4 @@
--- What the functions that write a part of a text say. Nobody has to believe it: `print_plan` and `print_words` are proved against Printing.antt.
+-- What the functions that write a part of a text say. Nobody has to believe it: `print_answer` is proved against Printing.antt.
 use Prim.Native.Nat.{ℕ, _≤_, min}
 use mathlib.Core.Path.{_≡_}
 use mathlib.Core.List.{List, _++_}

@@ -1,6 +1,6 @@
 // What the programs `plan` and `convert` print, as bytes.
 //
-// Promises: `print_plan` and `print_words` answer every file, every plan buffer and every text buffer; specs/Printing.antt says what stands in them then.
+// Promises: `print_answer` answers every form, every file, every plan buffer and every text buffer; specs/Printing.antt says what stands in them then.
 // May not touch: standard input and output. The programs read and write.
 ghost use Prim.Native.Nat.{_≤_, min};
 ghost use mathlib.Core.Path.{_≡_};
@@ -8,9 +8,15 @@ ghost use mathlib.Core.List.{[], _∷_, _++_};
 ghost use lib.ListN.{length, getD, take};
 ghost use Rattle.ascii.specs.Texts.{bytes};
 ghost use Rattle.converter.specs.declared.Converted.the-variants.{Words};
-ghost use Rattle.printing.specs.Printing.{digitsOf, decimal, refusalText, planText, wordLines, wordsText, Prints};
+ghost use Rattle.printing.specs.Printing.{digitsOf, decimal, refusalText, planText, wordLines, textOf, Prints};
 ghost use Rattle.printing.specs.Steps.{Put, Adds};
 use converter::Converted;
+
+// Whose text is wanted: that of the program `plan`, or that of the program `convert`.
+pub enum Form {
+    Plan,
+    Words,
+}
 
 fn least(a: usize, b: usize) -> usize
     ensures { λ r. ⌜ r ≡ min a b ⌝ }
@@ -110,22 +116,15 @@ fn put_lines(n: usize, words: &[u32], out: &mut [u8]) -> usize
     at
 }
 
-// Converts a file, and writes what the program `plan` prints. Answers how many bytes that are.
-pub fn print_plan(file: &[u8], words: &mut [u32], text: &mut [u8]) -> usize
-    ensures { λ r. ⌜ Prints planText (now (file .entry)) (now (words .entry)) (now (text .entry)) r (now (words .exit)) (now (text .exit)) ⌝ }
+// Converts a file, and writes the text of that form. Answers how many bytes that are.
+pub fn print_answer(form: Form, file: &[u8], words: &mut [u32], text: &mut [u8]) -> usize
+    ensures { λ r. ⌜ Prints (textOf form) (now (file .entry)) (now (words .entry)) (now (text .entry)) r (now (words .exit)) (now (text .exit)) ⌝ }
 {
     match converter::convert(file, words) {
-        Converted::Words(n) => put_summary(n, words, text),
-        Converted::Refused(n, p) => put_refusal(n, p, text),
-    }
-}
-
-// The same for the program `convert`.
-pub fn print_words(file: &[u8], words: &mut [u32], text: &mut [u8]) -> usize
-    ensures { λ r. ⌜ Prints wordsText (now (file .entry)) (now (words .entry)) (now (text .entry)) r (now (words .exit)) (now (text .exit)) ⌝ }
-{
-    match converter::convert(file, words) {
-        Converted::Words(n) => put_lines(n, words, text),
+        Converted::Words(n) => match form {
+            Form::Plan => put_summary(n, words, text),
+            Form::Words => put_lines(n, words, text),
+        },
         Converted::Refused(n, p) => put_refusal(n, p, text),
     }
 }

@@ -4,7 +4,7 @@ use Rattle.loader.proofs.Exact as loader
 use Rattle.converter.proofs.Once.{one-converted}
 use Rattle.converter_c.proofs.Packing.{one-converting}
 use Rattle.rules.proofs.History.{answers-once, count-from-fresh}
-use Rattle.engine.proofs.Replays.{replays-once}
+use Rattle.replaying.proofs.Replays.{replays-once}
 use Rattle.logger_c.proofs.Loadings.{loading-once}
 use Rattle.promises.specs.Promises.{Demand1, Demand2, Demand3}
 use Rattle.promises.proofs.Refusals.{file-refused, plan-refused, event-refused, record-kept, c-converted, c-loaded}

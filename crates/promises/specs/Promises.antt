@@ -32,7 +32,7 @@ use Rattle.rules.specs.Rules.{Config, Event}
 use Rattle.rules.specs.Calls.{fresh, noCounts, step, configOf, Answers}
 use Rattle.rules.specs.Calls as calls
 use Rattle.rules.specs.History.{Which, countOf, howMany, answersTo, after}
-use Rattle.engine.specs.Replay.{Replays}
+use Rattle.replaying.specs.Replay.{Replays}
 use Rattle.logger_c.specs.Calls.{Loading}
 use Rattle.promises.specs.Own.{Says}
 

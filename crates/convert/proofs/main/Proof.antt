@@ -21,23 +21,23 @@ large-buffer-requires-2 c κs = search needs
 array-share-prefix-file : tie.Need-array-share-prefix-file
 array-share-prefix-file c = search needs
 
-slice-aggregate-print-words : tie.Need-slice-aggregate-print-words
-slice-aggregate-print-words c = search needs
+slice-aggregate-print-answer : tie.Need-slice-aggregate-print-answer
+slice-aggregate-print-answer c = search needs
 
-slice-aggregate-print-words-2 : tie.Need-slice-aggregate-print-words-2
-slice-aggregate-print-words-2 c = search needs
+slice-aggregate-print-answer-2 : tie.Need-slice-aggregate-print-answer-2
+slice-aggregate-print-answer-2 c = search needs
 
-slice-aggregate-print-words-3 : tie.Need-slice-aggregate-print-words-3
-slice-aggregate-print-words-3 c = search needs
+slice-aggregate-print-answer-3 : tie.Need-slice-aggregate-print-answer-3
+slice-aggregate-print-answer-3 c = search needs
 
-print-words-requires : tie.Need-print-words-requires
-print-words-requires c κs = search needs
+print-answer-requires : tie.Need-print-answer-requires
+print-answer-requires c κs = search needs
 
 array-share-prefix-text : tie.Need-array-share-prefix-text
-array-share-prefix-text c = let h = room (c .before .before .print-words .ensures) in omega (arith, c .before .before .before .before .before .before .large-buffer2 .ensures)
+array-share-prefix-text c = let h = room (c .before .before .print-answer .ensures) in omega (arith, c .before .before .before .before .before .before .large-buffer2 .ensures)
 
 slice-aggregate-write-all : tie.Need-slice-aggregate-write-all
-slice-aggregate-write-all c = let h = room (c .before .before .before .print-words .ensures) in simp length-take (omega (arith, c .before .before .before .before .before .before .before .large-buffer2 .ensures))
+slice-aggregate-write-all c = let h = room (c .before .before .before .print-answer .ensures) in simp length-take (omega (arith, c .before .before .before .before .before .before .before .large-buffer2 .ensures))
 
 write-all-requires : tie.Need-write-all-requires
 write-all-requires c κs = search needs
@@ -54,10 +54,10 @@ main-spec =
     read-full-requires
     large-buffer-requires-2
     array-share-prefix-file
-    slice-aggregate-print-words
-    slice-aggregate-print-words-2
-    slice-aggregate-print-words-3
-    print-words-requires
+    slice-aggregate-print-answer
+    slice-aggregate-print-answer-2
+    slice-aggregate-print-answer-3
+    print-answer-requires
     array-share-prefix-text
     slice-aggregate-write-all
     write-all-requires

@@ -21,23 +21,23 @@ buffer-requires c κs = search needs
 array-share-prefix-file : tie.Need-array-share-prefix-file
 array-share-prefix-file c = search needs
 
-slice-aggregate-print-plan : tie.Need-slice-aggregate-print-plan
-slice-aggregate-print-plan c = search needs
+slice-aggregate-print-answer : tie.Need-slice-aggregate-print-answer
+slice-aggregate-print-answer c = search needs
 
-slice-aggregate-print-plan-2 : tie.Need-slice-aggregate-print-plan-2
-slice-aggregate-print-plan-2 c = search needs
+slice-aggregate-print-answer-2 : tie.Need-slice-aggregate-print-answer-2
+slice-aggregate-print-answer-2 c = search needs
 
-slice-aggregate-print-plan-3 : tie.Need-slice-aggregate-print-plan-3
-slice-aggregate-print-plan-3 c = search needs
+slice-aggregate-print-answer-3 : tie.Need-slice-aggregate-print-answer-3
+slice-aggregate-print-answer-3 c = search needs
 
-print-plan-requires : tie.Need-print-plan-requires
-print-plan-requires c κs = search needs
+print-answer-requires : tie.Need-print-answer-requires
+print-answer-requires c κs = search needs
 
 array-share-prefix-text : tie.Need-array-share-prefix-text
-array-share-prefix-text c = let h = room (c .before .before .print-plan .ensures) in omega (arith, c .before .before .before .before .before .before .buffer .ensures)
+array-share-prefix-text c = let h = room (c .before .before .print-answer .ensures) in omega (arith, c .before .before .before .before .before .before .buffer .ensures)
 
 slice-aggregate-write-all : tie.Need-slice-aggregate-write-all
-slice-aggregate-write-all c = let h = room (c .before .before .before .print-plan .ensures) in simp length-take (omega (arith, c .before .before .before .before .before .before .before .buffer .ensures))
+slice-aggregate-write-all c = let h = room (c .before .before .before .print-answer .ensures) in simp length-take (omega (arith, c .before .before .before .before .before .before .before .buffer .ensures))
 
 write-all-requires : tie.Need-write-all-requires
 write-all-requires c κs = search needs
@@ -54,10 +54,10 @@ main-spec =
     read-full-requires
     buffer-requires
     array-share-prefix-file
-    slice-aggregate-print-plan
-    slice-aggregate-print-plan-2
-    slice-aggregate-print-plan-3
-    print-plan-requires
+    slice-aggregate-print-answer
+    slice-aggregate-print-answer-2
+    slice-aggregate-print-answer-3
+    print-answer-requires
     array-share-prefix-text
     slice-aggregate-write-all
     write-all-requires

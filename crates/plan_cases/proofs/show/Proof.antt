@@ -9,11 +9,11 @@ use Rattle.printing.proofs.Room.{room}
 buffer-requires : tie.Need-buffer-requires
 buffer-requires c κs = search needs
 
-slice-aggregate-print-plan : tie.Need-slice-aggregate-print-plan
-slice-aggregate-print-plan c = search needs
+slice-aggregate-print-answer : tie.Need-slice-aggregate-print-answer
+slice-aggregate-print-answer c = search needs
 
-print-plan-requires : tie.Need-print-plan-requires
-print-plan-requires c κs = search needs
+print-answer-requires : tie.Need-print-answer-requires
+print-answer-requires c κs = search needs
 
 slice-aggregate-write-all : tie.Need-slice-aggregate-write-all
 slice-aggregate-write-all c = search needs
@@ -31,10 +31,10 @@ write-all-requires-3 : tie.Need-write-all-requires-3
 write-all-requires-3 c κs = search needs
 
 array-share-prefix-text : tie.Need-array-share-prefix-text
-array-share-prefix-text c = let h = room (c .before .before .before .before .before .before .before .before .print-plan .ensures) in omega (arith, c .before .before .before .before .before .before .before .before .before .before .before .buffer .ensures)
+array-share-prefix-text c = let h = room (c .before .before .before .before .before .before .before .before .print-answer .ensures) in omega (arith, c .before .before .before .before .before .before .before .before .before .before .before .buffer .ensures)
 
 slice-aggregate-write-all-3 : tie.Need-slice-aggregate-write-all-3
-slice-aggregate-write-all-3 c = let h = room (c .before .before .before .before .before .before .before .before .before .print-plan .ensures) in simp length-take (omega (arith, c .before .before .before .before .before .before .before .before .before .before .before .before .buffer .ensures))
+slice-aggregate-write-all-3 c = let h = room (c .before .before .before .before .before .before .before .before .before .print-answer .ensures) in simp length-take (omega (arith, c .before .before .before .before .before .before .before .before .before .before .before .before .buffer .ensures))
 
 write-all-requires-4 : tie.Need-write-all-requires-4
 write-all-requires-4 c κs = search needs
@@ -50,8 +50,8 @@ show-spec =
     tie.close
     (tie.spec
     buffer-requires
-    slice-aggregate-print-plan
-    print-plan-requires
+    slice-aggregate-print-answer
+    print-answer-requires
     slice-aggregate-write-all
     write-all-requires
     write-all-requires-2

@@ -6,7 +6,7 @@ use Rattle.rules.specs.Rules.{process, passes, filtersOn, firstMatch, triggered
 use Rattle.rules.specs.Calls.{fresh, noCounts, configOf, step}
 use Rattle.wire.specs.Wire.{number, bytesOf, part, frameAt, answerBytes}
 use Rattle.wire.proofs.Checks.{lastBytes}
-use Rattle.engine.specs.Replay.{replayed}
+use Rattle.replaying.specs.Replay.{replayed}
 
 -- a frame on channel 0 at 1000 µs and a frame on channel 1, against one channel with nothing on it: Idle, then 21
 pub a-replay : replayed (step (configOf (planAt (1 ∷ 1 ∷ 0 ∷ 0 ∷ 0 ∷ 0 ∷ [])))) 2

@@ -1,6 +1,6 @@
 -- `fresh_running`: the definitions compute.
-use Rattle.engine.proofs.replay.fresh_running.Statement.{statement}
-use Rattle.engine.proofs.replay.fresh_running.Tie as tie
+use Rattle.replaying.proofs.fresh_running.Statement.{statement}
+use Rattle.replaying.proofs.fresh_running.Tie as tie
 use mathlib.Core.Path.{refl}
 use mathlib.Core.List.{zipWith}
 use Rattle.firing.specs.Firings.{firingsOf}

@@ -1,18 +1,25 @@
 // A list of events from fresh, as bytes in and bytes out: 32 for an event, 32 for an answer. The plan is judged once for the whole list.
+//
+// Promises: `replay` answers any words, bytes of events, counts and room: each event as the rules of one event say for the plan that the words are,
+// on the state and the counts that the event before it left, or 20 where they are none (specs/Replay.antt). Bytes behind the last answer stay.
+// May not touch: files, XML. It reads plan words only where the loader took them.
 ghost use mathlib.Core.Path.{_≡_};
 ghost use Prim.Native.Nat.{_≤_};
 ghost use lib.ListN.{length, replicate};
 ghost use Rattle.rules.specs.Calls.{fresh};
 ghost use Rattle.wire.specs.Wire.{eventAt};
 ghost use Rattle.stepping.specs.Steps.{engineOf, outcomeOf};
-ghost use Rattle.engine.specs.Replay.{fewer, howMany, Replays};
-ghost use Rattle.engine.specs.Steps.{stepLoaded};
+ghost use Rattle.replaying.specs.Replay.{fewer, howMany, Replays};
+ghost use Rattle.replaying.specs.Steps.{stepLoaded};
 use loader::Loaded;
 use rules::Answer;
 use rules::Counts;
 use rules::Logging;
 use stepping::Ran;
 use stepping::Running;
+
+// The refusal of words that are no plan.
+const NO_PLAN: u32 = 20;
 
 // A fresh engine, beside times that are 0.
 fn fresh_running() -> Running
@@ -41,7 +48,7 @@ fn step_loaded(
 {
     let Loaded::Taken(lay) = loaded else {
         return Ran {
-            answer: Answer::Refused(super::NO_PLAN),
+            answer: Answer::Refused(NO_PLAN),
             state: s,
             counts: k,
         };

@@ -24,9 +24,9 @@ use Rattle.rules.specs.Calls.{fresh, configOf, refused, step}
 use Rattle.wire.specs.Wire.{frameAt, eventAt, answerBytes, withAnswer}
 use Rattle.wire.proofs.Bytes.{Filled, filled-none, filled-all, filled-take, filled-more, length-answer}
 use Rattle.stepping.specs.Steps.{planBy}
-use Rattle.engine.specs.Steps.{stepLoaded}
-use Rattle.engine.specs.Replay.{replayed, howMany, Replays, by-plan, no-plan}
-use Rattle.engine.proofs.Plans.{taken, read-is}
+use Rattle.replaying.specs.Steps.{stepLoaded}
+use Rattle.replaying.specs.Replay.{replayed, howMany, Replays, by-plan, no-plan}
+use Rattle.stepping.proofs.Plans.{taken, read-is}
 
 -- what a buffer is once a lent part of it is back
 abbrev pub back : List ℕ → ℕ → List ℕ → List ℕ

@@ -1,9 +1,9 @@
 -- `step_loaded` meets its contract: what the loader answered, then the kind of the event, decides.
 use borrow.Author.Needs.{needs}
-use Rattle.engine.proofs.replay.step_loaded.Statement.{statement}
-use Rattle.engine.proofs.replay.step_loaded.Tie as tie
+use Rattle.replaying.proofs.step_loaded.Statement.{statement}
+use Rattle.replaying.proofs.step_loaded.Tie as tie
 use mathlib.Core.Path.{refl}
-use Rattle.engine.proofs.Replays.{steps-not, steps-tick, steps-frame}
+use Rattle.replaying.proofs.Replays.{steps-not, steps-tick, steps-frame}
 
 enum-known-loaded : tie.Need-enum-known-loaded
 enum-known-loaded c = search needs

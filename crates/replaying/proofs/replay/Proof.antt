@@ -1,14 +1,14 @@
 -- `replay` meets its contract. The loop's invariant: the answers written, with those of the events left, are those of all events.
-use Rattle.engine.proofs.replay.replay.Statement.{statement}
-use Rattle.engine.proofs.replay.replay.Tie as tie
+use Rattle.replaying.proofs.replay.Statement.{statement}
+use Rattle.replaying.proofs.replay.Tie as tie
 use Prim.Native.Nat.{_-_, _+_}
 use mir.Syntax.{w64}
 use mir.Val.{Fits}
 use native.Mathlib.Omega.{arith}
 use Rattle.stepping.specs.Steps.{engineOf}
-use Rattle.engine.specs.Steps.{stepLoaded}
-use Rattle.engine.specs.Replay.{replayed}
-use Rattle.engine.proofs.Replays.{Turns, turns-none, turns-event, turns-more, turns-done, enough-events, enough-room, replays}
+use Rattle.replaying.specs.Steps.{stepLoaded}
+use Rattle.replaying.specs.Replay.{replayed}
+use Rattle.replaying.proofs.Replays.{Turns, turns-none, turns-event, turns-more, turns-done, enough-events, enough-room, replays}
 use borrow.Author.Needs.{needs}
 
 abbrev Inv-loop : tie.InvT-loop
