@@ -39,7 +39,7 @@ fn evaluate_one(rec: &[u32], states: [bool; 32]) -> Value
     let actions = wide(records::word(rec, 1));
     let size = wide(records::word(rec, 2));
     let behind = rows::tail(rec, 3 + actions);
-    code::evaluate(rows::head(behind, size), states)
+    evaluating::evaluate(rows::head(behind, size), states)
 }
 
 // All expressions, in order; none where there are more than 16.

@@ -1,31 +1,10 @@
--- What the contracts of the inner functions need: the code's own forms of a height and of a stack.
-use Prim.Native.Nat.{ℕ, zero, suc, _/_, _%_, _^_, _≤_, _<_}
-use mathlib.Core.Path.{_≡_}
-use mathlib.Core.Bool.{Bool}
+-- What the contract of the inner function needs: the code's own form of a height.
+use Prim.Native.Nat.{ℕ}
 use mathlib.Core.Option.{Option, none, some}
-use mathlib.Core.List.{List, [], _∷_}
-use lib.Dec.{eqb}
-use Rattle.code.specs.Code.{limit}
 use Rattle.code.specs.declared.Level.{Level}
 use Rattle.code.specs.declared.Level.the-variants.{To, Fault}
-use Rattle.code.specs.declared.Stack.{Stack}
 
 -- a height as the code has it
 abbrev pub levelOf : Option ℕ → Level
 levelOf none = Fault
 levelOf (some h) = To h
-
--- the lowest bit of a number
-abbrev pub topOf : ℕ → Bool
-topOf n = eqb (n % 2) 1
-
--- the lowest h bits of a number as a stack, the lowest on top
-unfoldable pub bitsOf : ℕ → ℕ → List Bool
-bitsOf zero n = []
-bitsOf (suc h) n = topOf n ∷ bitsOf h (n / 2)
-
--- a struct holds a stack, within the limit, and no bits above it
-pub record Holds (s : Stack) (st : List Bool) : Type 0 where
-  pub few : s .h ≤ limit
-  pub fits : s .bits < 2 ^ s .h
-  pub held : bitsOf (s .h) (s .bits) ≡ st

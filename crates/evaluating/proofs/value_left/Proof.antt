@@ -1,10 +1,10 @@
 -- `value_left` meets its contract: one value gives itself, none and more give a fault.
 use borrow.Author.Needs.{needs}
-use Rattle.code.proofs.value_left.Statement.{statement}
-use Rattle.code.proofs.value_left.Tie as tie
+use Rattle.evaluating.proofs.value_left.Statement.{statement}
+use Rattle.evaluating.proofs.value_left.Tie as tie
 use mathlib.Core.Path.{sym, ap, _∙_}
 use Rattle.code.specs.declared.Value.the-variants.{Is}
-use Rattle.code.proofs.Stacks.{one-left, not-one}
+use Rattle.evaluating.proofs.Stacks.{one-left, not-one}
 
 returns : tie.Need-returns
 returns c = sym (not-one _ _ (c .if1 .taken))

@@ -1,9 +1,9 @@
 -- `pushed` meets its contract: the number has room for one bit more, and it is the top.
 use borrow.Author.Needs.{needs}
-use Rattle.code.proofs.pushed.Statement.{statement}
-use Rattle.code.proofs.pushed.Tie as tie
+use Rattle.evaluating.proofs.pushed.Statement.{statement}
+use Rattle.evaluating.proofs.pushed.Tie as tie
 use native.Mathlib.Omega.{arith}
-use Rattle.code.proofs.Stacks.{fits-limit, byte-small, push-holds}
+use Rattle.evaluating.proofs.Stacks.{fits-limit, byte-small, push-holds}
 
 add-t4 : tie.Need-add-t4
 add-t4 c = search needs

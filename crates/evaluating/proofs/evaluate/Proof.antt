@@ -1,12 +1,12 @@
 -- `evaluate` meets its contract. The loop's invariant: the words that are left, run on the stack now, give what all words give on the empty stack.
-use Rattle.code.proofs.evaluate.Statement.{statement}
-use Rattle.code.proofs.evaluate.Tie as tie
+use Rattle.evaluating.proofs.evaluate.Statement.{statement}
+use Rattle.evaluating.proofs.evaluate.Tie as tie
 use Prim.Native.Nat.{_-_}
 use native.Mathlib.Omega.{arith}
 use mathlib.Core.Path.{_∙_}
 use mathlib.Core.Bool.{_&&_, _||_}
 use lib.ListN.{length}
-use Rattle.code.proofs.Stacks.{fits-one, fits-two, join-top, join-few, word-both, word-either, word-not, word-empty, word-push, word-full, word-none, Stands, at-first, goes-on, stops, ends}
+use Rattle.evaluating.proofs.Stacks.{fits-one, fits-two, join-top, join-few, word-both, word-either, word-not, word-empty, word-push, word-full, word-none, Stands, at-first, goes-on, stops, ends}
 use borrow.Author.Needs.{needs}
 
 abbrev Inv-loop : tie.InvT-loop

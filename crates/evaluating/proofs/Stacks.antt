@@ -10,11 +10,11 @@ use mathlib.Core.List.{List, [], _∷_}
 use lib.ListN.{length, drop, getD, drop-of-length-le}
 use borrow.Author.Tests.{lt-ltb, le-ltb, eq-eqb, ne-eqb}
 use mir.Val.{boolByte}
 use Rattle.code.specs.Code.{limit, joined, step, stepWord, runWords, valueOf, valueOn}
-use Rattle.code.specs.Steps.{topOf, bitsOf, Holds}
-use Rattle.code.specs.declared.Stack.{Stack}
+use Rattle.evaluating.specs.Steps.{topOf, bitsOf, Holds}
+use Rattle.evaluating.specs.declared.Stack.{Stack}
 use Rattle.code.specs.declared.Value.the-variants.{Is, Fault}
 use Rattle.code.proofs.Words.{word-at, op-push, op-both, op-either, op-invert, op-none}
 
 -- h bits are below 2 ^ 24, so that the number has room for one more
 pub fits-limit : (h n : ℕ) → h ≤ limit → n < 2 ^ h → n < 2 ^ limit

@@ -1,0 +1,2 @@
+-- Serves the contracts of the inner functions.
+pub mod Steps
