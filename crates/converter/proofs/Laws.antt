@@ -7,9 +7,9 @@ use mathlib.Core.List.{List, [], _∷_, _++_}
 use lib.Dec.{ltb}
 use lib.ListN.{length}
 use borrow.Author.Tests.{ne-eqb, lt-ltb, le-ltb}
-use Rattle.xml.specs.declared.Shape.{Shape}
-use Rattle.xml.specs.declared.Shape.the-variants.{Whole, TooLong, Broken}
-use Rattle.xml.specs.Shape.{Node, WellShaped, refusalOf}
+use Rattle.shape_rules.specs.declared.Shape.{Shape}
+use Rattle.shape_rules.specs.declared.Shape.the-variants.{Whole, TooLong, Broken}
+use Rattle.shape_rules.specs.Shape.{Node, WellShaped, refusalOf}
 use Rattle.grammar.specs.declared.Compiled.{Compiled}
 use Rattle.grammar.specs.Steps.{compiled}
 use Rattle.grammar.proofs.Ruled.{gives}

@@ -8,7 +8,7 @@ use mathlib.Core.List.{List, [], _∷_, _++_, map, map-map, append-nil, append-a
 use lib.ListN.{length, take, set, length-set, length-map}
 use lib.Seq.{take-suc-set}
 use borrow.Author.Tests.{lt-ltb}
-use Rattle.xml.specs.Shape.{Node}
+use Rattle.shape_rules.specs.Shape.{Node}
 use Rattle.records.specs.Records.{newest, flag, Statement, triggerWords, filterWords, actionWord, statementWords}
 use Rattle.records.specs.declared.Trigger.{Trigger}
 use Rattle.records.specs.declared.Filter.{Filter}

@@ -5,9 +5,9 @@ use mathlib.Core.Path.{_≡_, refl, sym, ap, subst, fun-ext, _∙_}
 use mathlib.Core.Option.{Option, none, some}
 use mathlib.Core.List.{List, _++_, head-eq-of-cons-eq}
 use lib.ListN.{length, drop}
-use Rattle.xml.specs.declared.Shape.{Shape}
-use Rattle.xml.specs.declared.Shape.the-variants.{Whole, TooLong, Broken}
-use Rattle.xml.specs.Shape.{Node, WellShaped, Shaped, refusalOf}
+use Rattle.shape_rules.specs.declared.Shape.{Shape}
+use Rattle.shape_rules.specs.declared.Shape.the-variants.{Whole, TooLong, Broken}
+use Rattle.shape_rules.specs.Shape.{Node, WellShaped, Shaped, refusalOf}
 use Rattle.xml_laws.proofs.OneDoc.{one-doc}
 use Rattle.xml_laws.proofs.OneAnswer.{one-answer}
 use Rattle.grammar.specs.declared.Compiled.{Compiled}

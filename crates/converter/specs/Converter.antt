@@ -6,8 +6,8 @@ use mathlib.Core.Option.{Option, none, some}
 use mathlib.Core.List.{List, [], _∷_, _++_, map}
 use lib.Dec.{ltb}
 use lib.ListN.{length, take, drop}
-use Rattle.xml.specs.declared.Shape.{Shape}
-use Rattle.xml.specs.Shape.{Node, WellShaped, Shaped, refusalOf}
+use Rattle.shape_rules.specs.declared.Shape.{Shape}
+use Rattle.shape_rules.specs.Shape.{Node, WellShaped, Shaped, refusalOf}
 use Rattle.records.specs.Records.{Statement}
 use Rattle.loader.specs.Plan.{Plan, wordsOf}
 use Rattle.grammar.specs.declared.Compiled.{Compiled}

@@ -7,8 +7,8 @@ ghost use mathlib.Core.Bool.{true, false};
 ghost use Prim.Native.Nat.{ℕ, suc, _≤_};
 ghost use mathlib.Core.List.{List};
 ghost use lib.ListN.{length, getD, set};
-ghost use Rattle.xml.specs.declared.Shape.the-variants.{Whole};
-ghost use Rattle.xml.specs.Shape.{Shaped};
+ghost use Rattle.shape_rules.specs.declared.Shape.the-variants.{Whole};
+ghost use Rattle.shape_rules.specs.Shape.{Shaped};
 ghost use Rattle.walk_rules.specs.Steps.{contentAt, skipped};
 ghost use Rattle.element.specs.Steps.{lacksFirst, worded};
 ghost use Rattle.schema.specs.Steps.{isCarried};
@@ -20,9 +20,9 @@ use document_rules::Seen;
 use document_rules::Walk;
 use schema::Kind;
 use schema::Times;
+use shape_rules::Shape;
 use walk_rules::Body;
 use walk_rules::Item;
-use xml::Shape;
 
 fn is_carried(kind: Kind) -> bool
     ensures { λ r. ⌜ r ≡ isCarried kind ⌝ }

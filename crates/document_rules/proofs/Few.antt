@@ -12,7 +12,7 @@ use borrow.Author.Tests.{leb-true, leb-false}
 use Rattle.ascii.specs.Texts.{bytes, same}
 use Rattle.ascii.proofs.Cases.{by-cases}
 use Rattle.ascii.proofs.Equal.{same-self, same-equal}
-use Rattle.xml.specs.Shape.{Attribute, Node, node, Items}
+use Rattle.shape_rules.specs.Shape.{Attribute, Node, node, Items}
 use Rattle.schema.specs.declared.Kind.{Kind}
 use Rattle.schema.specs.declared.Kind.the-variants.{File}
 use Rattle.schema.specs.declared.Times.{Times}

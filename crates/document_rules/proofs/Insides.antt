@@ -10,7 +10,7 @@ use lib.Seq.{slice}
 use borrow.Author.Tests.{ltb-true, ltb-false}
 use Rattle.letters.specs.Kinds.{isBlank}
 use Rattle.ascii.proofs.Cases.{by-cases}
-use Rattle.xml.specs.Shape.{Node, node, Items}
+use Rattle.shape_rules.specs.Shape.{Node, node, Items}
 use Rattle.walk_rules.specs.declared.Item.{Item}
 use Rattle.walk_rules.specs.declared.Body.{Body}
 use Rattle.walk_rules.specs.Text.{joined}

@@ -11,9 +11,9 @@ use lib.Seq.{set-at}
 use borrow.Author.Tests.{eq-eqb, ne-eqb, lt-ltb}
 use Rattle.ascii.specs.Texts.{bytes, same}
 use Rattle.ascii.proofs.Cases.{by-cases}
-use Rattle.xml.specs.declared.Shape.{Shape}
-use Rattle.xml.specs.declared.Shape.the-variants.{Whole, TooLong, Broken}
-use Rattle.xml.specs.Shape.{Attribute, Node, node, Items, WellShaped, Shaped, refusalOf}
+use Rattle.shape_rules.specs.declared.Shape.{Shape}
+use Rattle.shape_rules.specs.declared.Shape.the-variants.{Whole, TooLong, Broken}
+use Rattle.shape_rules.specs.Shape.{Attribute, Node, node, Items, WellShaped, Shaped, refusalOf}
 use Rattle.xml_laws.proofs.OneDoc.{one-doc}
 use Rattle.xml_laws.proofs.OneAnswer.{one-answer}
 use Rattle.walk_rules.specs.Steps as walk

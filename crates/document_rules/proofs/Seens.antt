@@ -11,7 +11,7 @@ use borrow.Author.Tests.{lt-ltb, le-ltb, le-leb, leb-true, ne-eqb}
 use Rattle.ascii.specs.Texts.{bytes, same}
 use Rattle.ascii.proofs.Cases.{by-cases, le-or-lt}
 use Rattle.ascii.proofs.Equal.{same-self, same-equal}
-use Rattle.xml.specs.Shape.{Attribute, node, Items}
+use Rattle.shape_rules.specs.Shape.{Attribute, node, Items}
 use Rattle.schema.specs.declared.Kind.{Kind}
 use Rattle.schema.specs.declared.Times.{Times}
 use Rattle.schema.specs.declared.Times.the-variants.{Once, OneTo, UpTo}

@@ -7,7 +7,7 @@ use mathlib.Core.Bool.{_||_}
 use lib.ListN.{length}
 use lib.Seq.{slice}
 use Rattle.ascii.proofs.Cases.{by-cases}
-use Rattle.xml.specs.Shape.{Node, node, Items, WellShaped}
+use Rattle.shape_rules.specs.Shape.{Node, node, Items, WellShaped}
 use Rattle.walk_rules.specs.declared.Item.{Item}
 use Rattle.walk_rules.specs.declared.Body.{Body}
 use Rattle.walk_rules.specs.Steps as walk

@@ -9,7 +9,7 @@ use lib.ListN.{length}
 use lib.Seq.{slice}
 use borrow.Author.Tests.{ne-eqb, eqb-true, eqb-false}
 use Rattle.ascii.proofs.Cases.{by-cases, le-or-lt}
-use Rattle.xml.specs.Shape.{Attribute, Node, node, Items}
+use Rattle.shape_rules.specs.Shape.{Attribute, Node, node, Items}
 use Rattle.walk_rules.specs.declared.Item.{Item}
 use Rattle.walk_rules.specs.declared.Body.{Body}
 use Rattle.walk_rules.specs.Steps as walk

@@ -5,7 +5,7 @@ use mathlib.Core.Bool.{Bool, false, not, cond, _||_}
 use lib.Dec.{eqb}
 use lib.ListN.{length}
 use Rattle.ascii.specs.Texts.{bytes, same}
-use Rattle.xml.specs.Shape.{Node, node, Items}
+use Rattle.shape_rules.specs.Shape.{Node, node, Items}
 use Rattle.schema.specs.declared.Times.the-variants.{Once, OneTo, UpTo}
 use Rattle.schema.specs.Schema.{Parent, any, oneOf, under}
 use Rattle.element.specs.Element.{Known, Fault, _at_if_, ownFaults}

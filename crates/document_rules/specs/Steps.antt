@@ -7,8 +7,8 @@ use mathlib.Core.Bool.{Bool, true, false, cond, _&&_, _||_}
 use lib.Dec.{leb, ltb, eqb}
 use lib.ListN.{length, getD, replicate, set, take}
 use lib.Seq.{slice}
-use Rattle.xml.specs.declared.Shape.{Shape}
-use Rattle.xml.specs.Shape.{Node, WellShaped, Shaped, refusalOf}
+use Rattle.shape_rules.specs.declared.Shape.{Shape}
+use Rattle.shape_rules.specs.Shape.{Node, WellShaped, Shaped, refusalOf}
 use Rattle.walk_rules.specs.declared.Item.{Item}
 use Rattle.walk_rules.specs.declared.Body.{Body}
 use Rattle.walk_rules.specs.Steps as walk

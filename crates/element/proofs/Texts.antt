@@ -9,7 +9,7 @@ use lib.Seq.{slice, length-slice, length-take-le, take-all, take-at}
 use Rattle.ascii.specs.Texts.{same}
 use Rattle.ascii.proofs.Cases.{by-cases}
 use Rattle.ascii.proofs.Equal.{same-self, same-equal}
-use Rattle.xml.specs.Shape.{Attribute, node, Items}
+use Rattle.shape_rules.specs.Shape.{Attribute, node, Items}
 use Rattle.walk_rules.specs.declared.Part.{Part}
 use Rattle.walk_rules.specs.declared.Item.{Item}
 use Rattle.walk_rules.specs.declared.Body.{Body}

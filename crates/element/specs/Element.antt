@@ -9,7 +9,7 @@ use Rattle.ascii.specs.Texts.{bytes, same}
 use Rattle.values.specs.declared.Worth.{Worth}
 use Rattle.values.specs.declared.Worth.the-variants.{Good, Bad, NotCarried}
 use Rattle.values.specs.Values.{worth}
-use Rattle.xml.specs.Shape.{Attribute, Items}
+use Rattle.shape_rules.specs.Shape.{Attribute, Items}
 use Rattle.walk_rules.specs.Text.{joined, trimmed}
 use Rattle.schema.specs.declared.Times.the-variants.{Once, OneTo, UpTo}
 use Rattle.schema.specs.Schema.{Parent, Rule, _to_, any, oneOf, rulesOf}

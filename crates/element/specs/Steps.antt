@@ -9,7 +9,7 @@ use lib.Seq.{slice}
 use Rattle.ascii.specs.Texts.{bytes, same}
 use Rattle.values.specs.declared.Worth.{Worth}
 use Rattle.values.specs.Values.{worth}
-use Rattle.xml.specs.Shape.{Attribute}
+use Rattle.shape_rules.specs.Shape.{Attribute}
 use Rattle.walk_rules.specs.declared.TagPart.{TagPart}
 use Rattle.walk_rules.specs.declared.Part.{Part}
 use Rattle.walk_rules.specs.Steps as walk

@@ -11,7 +11,7 @@ use borrow.Author.Tests.{not-false}
 use Rattle.ascii.specs.Texts.{bytes, same}
 use Rattle.ascii.proofs.Cases.{by-cases}
 use Rattle.ascii.proofs.Equal.{same-equal}
-use Rattle.xml.specs.Shape.{Attribute, Items}
+use Rattle.shape_rules.specs.Shape.{Attribute, Items}
 use Rattle.schema.specs.declared.Kind.{Kind}
 use Rattle.schema.specs.declared.Kind.the-variants.{File, Kvaser, Version, Settings, Mode, CanBus, Parameters, TriggerBlock, Triggers, MsgId, MsgDlc, ErrorFrame, Startup, Statements, Statement, Expression, Actions, StartLog, StopLog, StopLogCompletely, Filters, MessagePass, MessageStop, Channel, NotCarried, Unknown}
 use Rattle.schema.specs.Schema.{Parent, Rule, any, elements, rulesIn}

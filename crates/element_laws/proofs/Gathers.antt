@@ -15,7 +15,7 @@ use Rattle.values.specs.declared.Worth.{Worth}
 use Rattle.values.specs.declared.Sort.{Sort}
 use Rattle.values.specs.declared.Sort.the-variants.{Numeric, Timeout, YesNo, Protocol, TriggerName, Unread, Flexible}
 use Rattle.values.specs.Values.{digitsFrom, digits, number, oneOf, triggerName, worth}
-use Rattle.xml.specs.Shape.{Attribute}
+use Rattle.shape_rules.specs.Shape.{Attribute}
 use Rattle.schema.specs.declared.Kind.{Kind}
 use Rattle.schema.specs.declared.Asked.{Asked}
 use Rattle.schema.specs.Schema.{Rule, any, rulesOf}

@@ -11,7 +11,7 @@ use lib.Seq.{slice}
 use Rattle.ascii.specs.Texts.{bytes, same}
 use Rattle.ascii.proofs.Cases.{by-cases}
 use Rattle.values.specs.Values.{worth}
-use Rattle.xml.specs.Shape.{Attribute, node, Items}
+use Rattle.shape_rules.specs.Shape.{Attribute, node, Items}
 use Rattle.walk_rules.specs.Text.{joined, trimmed}
 use Rattle.walk_rules.specs.Stands.{ElementAt}
 use Rattle.walk_rules.specs.Steps as walk

@@ -8,7 +8,7 @@ use lib.ListN.{length}
 use lib.Seq.{slice}
 use Rattle.ascii.specs.Texts.{same}
 use Rattle.ascii.proofs.Cases.{by-cases}
-use Rattle.xml.specs.Shape.{Attribute, Items}
+use Rattle.shape_rules.specs.Shape.{Attribute, Items}
 use Rattle.walk_rules.specs.declared.Part.{Part}
 use Rattle.walk_rules.specs.declared.TagPart.{TagPart}
 use Rattle.walk_rules.specs.Stands.{StartAt}

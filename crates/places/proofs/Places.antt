@@ -11,9 +11,9 @@ use lib.ListN.{length, length-append, length-map}
 use borrow.Author.Tests.{leb-true}
 use Rattle.ascii.specs.Texts.{same}
 use Rattle.ascii.proofs.Cases.{by-cases}
-use Rattle.xml.specs.declared.Shape.{Shape}
-use Rattle.xml.specs.declared.Shape.the-variants.{Whole, TooLong, Broken}
-use Rattle.xml.specs.Shape.{Node, node, WellShaped, Shaped, refusalOf}
+use Rattle.shape_rules.specs.declared.Shape.{Shape}
+use Rattle.shape_rules.specs.declared.Shape.the-variants.{Whole, TooLong, Broken}
+use Rattle.shape_rules.specs.Shape.{Node, node, WellShaped, Shaped, refusalOf}
 use Rattle.walk_rules.specs.Steps.{rootAt}
 use Rattle.walk_laws.proofs.Laws.{root-law, element-law}
 use Rattle.records.specs.Records.{Statement, triggerWords, filterWords, actionWord, statementWords, timeoutWord, triggerIn, filterIn}

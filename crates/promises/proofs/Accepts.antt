@@ -11,7 +11,7 @@ use borrow.Author.Tests.{lt-ltb, le-ltb, ltb-false}
 use Rattle.ascii.specs.Texts.{bytes, same}
 use Rattle.ascii.proofs.Cases.{by-cases}
 use Rattle.ascii.proofs.Equal.{same-equal}
-use Rattle.xml.specs.Shape.{Node}
+use Rattle.shape_rules.specs.Shape.{Node}
 use Rattle.values.specs.declared.Number.{Number}
 use Rattle.values.specs.declared.Number.the-variants.{Value, Nothing}
 use Rattle.values.specs.Values.{digit, digitsFrom, digits, number, all}

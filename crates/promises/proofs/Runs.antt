@@ -5,7 +5,7 @@ use mathlib.Core.List.{List, [], _∷_, map}
 use mathlib.Core.Bool.{Bool, true, false}
 use mathlib.Core.Option.{none, Option·none-ne-some}
 use lib.ListN.{length, getD, take}
-use Rattle.xml.specs.Shape.{Node, WellShaped}
+use Rattle.shape_rules.specs.Shape.{Node, WellShaped}
 use Rattle.xml_laws.proofs.OneDoc.{one-doc}
 use Rattle.code.specs.declared.Value.the-variants.{Is}
 use Rattle.code.specs.Code.{Runs}

@@ -4,7 +4,7 @@ use mathlib.Core.Path.{_≡_}
 use mathlib.Core.List.{List, [], _∷_, map}
 use mathlib.Core.Bool.{Bool, false}
 use lib.ListN.{length, getD}
-use Rattle.xml.specs.Shape.{Node}
+use Rattle.shape_rules.specs.Shape.{Node}
 use Rattle.code.specs.declared.Value.the-variants.{Is}
 use Rattle.grammar.specs.Tree.{Expression, mean}
 use Rattle.grammar.specs.Outcome.{Reads}

@@ -8,9 +8,9 @@ use mathlib.Core.Bool.{Bool, true}
 use lib.Dec.{ltb}
 use lib.ListN.{length, take, drop}
 use Rattle.ascii.specs.Texts.{bytes}
-use Rattle.xml.specs.declared.Shape.{Shape}
-use Rattle.xml.specs.Shape.{Node, WellShaped, Shaped}
-use Rattle.xml.specs.Shape as xml
+use Rattle.shape_rules.specs.declared.Shape.{Shape}
+use Rattle.shape_rules.specs.Shape.{Node, WellShaped, Shaped}
+use Rattle.shape_rules.specs.Shape as xml
 use Rattle.values.specs.declared.Number.the-variants.{Value}
 use Rattle.values.specs.Values.{digit, number, all}
 use Rattle.code.specs.Code.{Runs}

@@ -10,7 +10,7 @@ use lib.Seq.{take-append-seam}
 use borrow.Author.Tests.{le-leb, eqb-false}
 use Rattle.ascii.specs.Texts.{bytes, same}
 use Rattle.ascii.proofs.Cases.{le-or-lt}
-use Rattle.xml.specs.Shape.{Node, WellShaped}
+use Rattle.shape_rules.specs.Shape.{Node, WellShaped}
 use Rattle.records.specs.declared.Action.{Action}
 use Rattle.records.specs.declared.Filter.{Filter}
 use Rattle.records.specs.Records.{triggerIn, filterIn}

@@ -7,7 +7,7 @@
 ghost use mathlib.Core.Path.{_≡_};
 ghost use Prim.Native.Nat.{_≤_, _<_};
 ghost use lib.ListN.{length};
-use xml::Shape;
+use shape_rules::Shape;
 
 const STDIN: i32 = 0;
 

@@ -11,7 +11,7 @@ use borrow.Author.Tests.{not-false, eqb-false}
 use Rattle.ascii.specs.Texts.{bytes, same}
 use Rattle.ascii.proofs.Cases.{by-cases, le-or-lt}
 use Rattle.ascii.proofs.Equal.{same-equal}
-use Rattle.xml.specs.Shape.{Node, node, Items}
+use Rattle.shape_rules.specs.Shape.{Node, node, Items}
 use Rattle.schema.specs.declared.Kind.{Kind}
 use Rattle.schema.specs.declared.Kind.the-variants.{File, Statement}
 use Rattle.schema.specs.declared.Times.the-variants.{Once}

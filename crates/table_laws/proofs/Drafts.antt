@@ -12,7 +12,7 @@ use Rattle.ascii.specs.Texts.{bytes, same}
 use Rattle.ascii.proofs.Cases.{by-cases}
 use Rattle.ascii.proofs.Equal.{same-equal}
 use Rattle.records.specs.Records.{actionWord}
-use Rattle.xml.specs.Shape.{Node}
+use Rattle.shape_rules.specs.Shape.{Node}
 use Rattle.schema.specs.declared.Kind.{Kind}
 use Rattle.schema.specs.declared.Kind.the-variants.{Statement}
 use Rattle.schema.specs.Schema.{parents, parentIn, elements, rulesIn, any, oneOf, under}

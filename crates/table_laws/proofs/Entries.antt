@@ -7,7 +7,7 @@ use lib.Dec.{eqb}
 use lib.ListN.{length, replicate, length-map}
 use lib.Seq.{take-at}
 use Rattle.ascii.proofs.Cases.{by-cases}
-use Rattle.xml.specs.Shape.{Node, node, Items, WellShaped}
+use Rattle.shape_rules.specs.Shape.{Node, node, Items, WellShaped}
 use Rattle.schema.specs.declared.Kind.{Kind}
 use Rattle.schema.specs.declared.Kind.the-variants.{File}
 use Rattle.schema.specs.Schema.{any, oneOf, under}

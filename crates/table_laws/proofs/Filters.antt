@@ -16,7 +16,7 @@ use Rattle.records.specs.declared.Filter.{Filter}
 use Rattle.values.specs.declared.Number.{Number}
 use Rattle.values.specs.declared.Number.the-variants.{Value, Nothing}
 use Rattle.values.specs.Values.{ranged, number, worth}
-use Rattle.xml.specs.Shape.{Node}
+use Rattle.shape_rules.specs.Shape.{Node}
 use Rattle.schema.specs.declared.Kind.{Kind}
 use Rattle.schema.specs.declared.Kind.the-variants.{MessagePass, MessageStop}
 use Rattle.schema.specs.Schema.{parents, parentIn, any, oneOf, under}

@@ -3,7 +3,7 @@ use Prim.Native.Nat.{ℕ, _≤_}
 use mathlib.Core.Path.{_≡_, ap, sym, _∙_}
 use mathlib.Core.List.{List, [], map}
 use lib.ListN.{length, take}
-use Rattle.xml.specs.Shape.{Node, WellShaped}
+use Rattle.shape_rules.specs.Shape.{Node, WellShaped}
 use Rattle.element.specs.Element.{has}
 use Rattle.reading.specs.Reading.{is, filterOf}
 use Rattle.document_rules.specs.Document.{known, elementFaults}

@@ -11,7 +11,7 @@ use borrow.Author.Tests.{not-true}
 use Rattle.ascii.specs.Texts.{bytes, same}
 use Rattle.ascii.proofs.Cases.{by-cases}
 use Rattle.ascii.proofs.Equal.{same-equal}
-use Rattle.xml.specs.Shape.{Node, node, Items}
+use Rattle.shape_rules.specs.Shape.{Node, node, Items}
 use Rattle.loader.proofs.Laws.{and-left, and-right}
 use Rattle.schema.specs.Schema.{Parent, parents, parentIn, any, oneOf, under}
 use Rattle.element.specs.Element.{Known}

@@ -7,7 +7,7 @@ use mathlib.Core.Bool.{true, false}
 use lib.Dec.{ltb}
 use lib.ListN.{getD}
 use Rattle.ascii.specs.Texts.{bytes, same}
-use Rattle.xml.specs.Shape.{node}
+use Rattle.shape_rules.specs.Shape.{node}
 use Rattle.walk_rules.specs.Stands.{ElementAt}
 use Rattle.schema.specs.declared.Kind.{Kind}
 use Rattle.schema.specs.declared.Kind.the-variants.{MsgId, MsgDlc, ErrorFrame, Startup, MessagePass, MessageStop}

@@ -15,7 +15,7 @@ use Rattle.ascii.proofs.Equal.{same-equal}
 use Rattle.values.specs.declared.Number.{Number}
 use Rattle.values.specs.declared.Number.the-variants.{Value, Nothing}
 use Rattle.values.specs.Values.{number, ranged, worth}
-use Rattle.xml.specs.Shape.{Attribute}
+use Rattle.shape_rules.specs.Shape.{Attribute}
 use Rattle.walk_rules.specs.declared.Part.{Part}
 use Rattle.schema.specs.declared.Kind.{Kind}
 use Rattle.schema.specs.declared.Kind.the-variants.{Mode, Parameters, MsgId, MsgDlc, ErrorFrame, Startup}

@@ -4,7 +4,7 @@ use mathlib.Core.Path.{_≡_}
 use mathlib.Core.List.{List, [], _∷_, map}
 use mathlib.Core.Bool.{true}
 use lib.ListN.{length, take}
-use Rattle.xml.specs.Shape.{Node}
+use Rattle.shape_rules.specs.Shape.{Node}
 use Rattle.records.specs.Records.{actionWord}
 use Rattle.schema.specs.Steps as schema
 use Rattle.element.specs.Element.{Known, Fault, ownFaults, valueOf, textOf}

@@ -7,7 +7,7 @@ use mathlib.Core.Bool.{false}
 use lib.ListN.{length, drop}
 use Rattle.letters.specs.Kinds.{isBlank, isStart, isDecl}
 use Rattle.ascii.proofs.Spans.{low-of}
-use Rattle.xml.specs.Shape.{Run, Remark, Comment, Misc, Prolog}
+use Rattle.shape_rules.specs.Shape.{Run, Remark, Comment, Misc, Prolog}
 use Rattle.walk_rules.specs.declared.Item.{Item}
 use Rattle.walk_rules.specs.Steps.{past, itemAt, prologEnd, miscFrom, rootAt}
 use Rattle.walk_rules.proofs.Places.{here, ahead-in}

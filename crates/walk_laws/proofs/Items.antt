@@ -7,7 +7,7 @@ use mathlib.Core.Bool.{Bool, false}
 use lib.ListN.{drop}
 use lib.Seq.{slice}
 use Rattle.letters.specs.Kinds.{isBlank, isStart, isDigit, isName, isText}
-use Rattle.xml.specs.Shape.{Node, Items, Run, Name, Remark, Comment, Content, Element-of, Element}
+use Rattle.shape_rules.specs.Shape.{Node, Items, Run, Name, Remark, Comment, Content, Element-of, Element}
 use Rattle.walk_rules.specs.declared.Item.{Item}
 use Rattle.walk_rules.specs.Stands.{Closing, texted}
 use Rattle.walk_rules.specs.Steps.{past, ahead, remarkEnd, itemAt}

@@ -7,7 +7,7 @@ use mathlib.Core.Bool.{false}
 use mathlib.Core.Logic.{_↔_}
 use lib.ListN.{length, drop}
 use lib.Seq.{slice}
-use Rattle.xml.specs.Shape.{Attribute, Node, node, Items, Element, WellShaped}
+use Rattle.shape_rules.specs.Shape.{Attribute, Node, node, Items, Element, WellShaped}
 use Rattle.walk_rules.specs.declared.TagPart.{TagPart}
 use Rattle.walk_rules.specs.declared.Item.{Item}
 use Rattle.walk_rules.specs.declared.Body.{Body}

@@ -8,8 +8,8 @@ use borrow.Author.Tests.{eqb-false}
 use lib.ListN.{length, take, drop, length-drop, length-append}
 use lib.Seq.{slice, drop-drop, drop-append-seam, take-append-seam}
 use Rattle.letters.specs.Kinds.{among, isBlank, isStart, isName, spanAt}
-use Rattle.xml.proofs.Bytes.{blank-not-name, start-is-name, start-not-blank}
-use Rattle.xml.specs.Shape.{Attribute, Run, Name, Attributes, Spelled, Remark}
+use Rattle.shape_rules.proofs.Bytes.{blank-not-name, start-is-name, start-not-blank}
+use Rattle.shape_rules.specs.Shape.{Attribute, Run, Name, Attributes, Spelled, Remark}
 use Rattle.walk_rules.specs.Steps.{past, ahead, closing, remarkEnd}
 use Rattle.walk_rules.proofs.Places.{here, ahead-in}
 use Rattle.walk_rules.proofs.Answers.{closing-first, closing-second, closing-third}

@@ -7,7 +7,7 @@ use mathlib.Core.Bool.{false}
 use lib.ListN.{length, drop, length-drop}
 use lib.Seq.{slice}
 use Rattle.letters.specs.Kinds.{isBlank, isStart, isDigit, isName, isValue}
-use Rattle.xml.specs.Shape.{Attribute, Node, node, Items, Run, Name, Attributes, Spelled, Element-of}
+use Rattle.shape_rules.specs.Shape.{Attribute, Node, node, Items, Run, Name, Attributes, Spelled, Element-of}
 use Rattle.walk_rules.specs.declared.TagPart.{TagPart}
 use Rattle.walk_rules.specs.declared.Body.{Body}
 use Rattle.walk_rules.specs.Stands.{Closing, Tail}

@@ -5,7 +5,7 @@ use mathlib.Core.Path.{_≡_, refl, sym, ap, _∙_, subst}
 use mathlib.Core.List.{List, [], _∷_, _++_}
 use lib.ListN.{length, drop}
 use lib.Seq.{slice}
-use Rattle.xml.specs.Shape.{Attribute, Node, node, Items, Element}
+use Rattle.shape_rules.specs.Shape.{Attribute, Node, node, Items, Element}
 use Rattle.walk_rules.specs.declared.Item.{Item}
 use Rattle.walk_rules.specs.declared.Body.{Body}
 use Rattle.walk_rules.specs.Text.{joined}

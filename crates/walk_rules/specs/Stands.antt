@@ -4,7 +4,7 @@ use mathlib.Core.List.{List, [], _∷_, _++_}
 use lib.ListN.{length, drop}
 use Rattle.ascii.specs.Texts.{_▹_}
 use Rattle.letters.specs.Kinds.{isBlank}
-use Rattle.xml.specs.Shape.{Attribute, Node, Items, Run, Name, Attributes, Content, Element}
+use Rattle.shape_rules.specs.Shape.{Attribute, Node, Items, Run, Name, Attributes, Content, Element}
 
 -- the element x stands at i, e is behind it, and elements nest at most d deep in it
 pub record ElementAt (f : List ℕ) (d i : ℕ) (x : Node) (e : ℕ) : Type 0 where

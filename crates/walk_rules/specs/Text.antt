@@ -3,7 +3,7 @@ use Prim.Native.Nat.{ℕ}
 use mathlib.Core.List.{List, [], _∷_}
 use mathlib.Core.Bool.{true, false, cond}
 use Rattle.letters.specs.Kinds.{isBlank}
-use Rattle.xml.specs.Shape.{Items}
+use Rattle.shape_rules.specs.Shape.{Items}
 
 -- "all text directly in it, joined"
 unfoldable pub joined : Items → List ℕ

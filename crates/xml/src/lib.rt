@@ -1,228 +1,25 @@
 // The shape of a configuration file: the first pass of the reader.
 //
-// Promises: `read_shape` answers every input: the file is too long, or it is well shaped as specs/Shape.antt says it,
+// Promises: `read_shape` answers every input: the file is too long, or it is well shaped as shape_rules/specs/Shape.antt says it,
 // or how many of its bytes some well-shaped text starts with.
 // May not touch: what an element means. It knows no element's name, and keeps nothing of what it reads.
 ghost use mathlib.Core.Path.{_≡_};
-ghost use Prim.Native.Nat.{_≤_, _<_};
-ghost use lib.Seq.{slice};
+ghost use Prim.Native.Nat.{_<_};
 ghost use lib.ListN.{length};
-ghost use Rattle.xml.specs.Machine.{at, goes, start, decl, mark, markXm, before, after, idle, comment, bang, text, attr, equal, valued};
-ghost use Rattle.xml.specs.Reads.{Reads, Expects, tagged, ReadsAttributes, TagEnd, TagRest, SameName, closing, behind, Marks, inLt, inText, ReadsElement, one, Outside, asShape};
-ghost use Rattle.xml.specs.Shape.{Shaped};
+ghost use Rattle.shape_rules.specs.Machine.{at, goes, start, decl, mark, markXm, before, after, idle};
+ghost use Rattle.shape_rules.specs.Reads.{Reads, Marks, inLt, inText, ReadsElement, one, Outside, asShape};
+ghost use Rattle.shape_rules.specs.Shape.{Shaped};
+use shape_rules::Mark;
+use shape_rules::Outer;
+use shape_rules::Shape;
+use shape_rules::Step;
+use shape_rules::Tag;
 
 // The most bytes that a file may have.
 const LONGEST: usize = 32768;
 
 // How many elements may nest in the root.
 const NESTED: usize = 7;
-
-// A file's shape. Broken: some well-shaped text starts with this many of its bytes, and none with more.
-pub enum Shape {
-    Whole,
-    TooLong,
-    Broken(usize),
-}
-
-// Where reading came to, or how many bytes can stand.
-enum Step {
-    At(usize),
-    Bad(usize),
-}
-
-// The byte b must stand here.
-fn expect(file: &[u8], from: usize, b: u8) -> Step
-    ensures { λ r. ⌜ Expects b (now (file .entry)) from r ⌝ }
-{
-    if from < file.len() {
-        let found = file[from];
-        if found == b {
-            return Step::At(from + 1);
-        }
-    }
-    Step::Bad(from)
-}
-
-// Behind `<!--`: to behind `-->`.
-fn comment_text(file: &[u8], from: usize) -> Step
-    ensures { λ r. ⌜ Reads (comment text) idle (now (file .entry)) from r ⌝ }
-{
-    let mut here = from;
-    let mut dashed = false;
-    while here < file.len() {
-        let b = file[here];
-        if b == b'-' {
-            if dashed {
-                return expect(file, here + 1, b'>');
-            }
-            here += 1;
-            dashed = true;
-        } else if letters::is_any(b) {
-            here += 1;
-            dashed = false;
-        } else {
-            return Step::Bad(here);
-        }
-    }
-    Step::Bad(here)
-}
-
-// Behind `<!`: to behind `-->`.
-fn comment(file: &[u8], from: usize) -> Step
-    ensures { λ r. ⌜ Reads (comment bang) idle (now (file .entry)) from r ⌝ }
-{
-    match expect(file, from, b'-') {
-        Step::At(dash) => match expect(file, dash, b'-') {
-            Step::At(inner) => comment_text(file, inner),
-            Step::Bad(p) => Step::Bad(p),
-        },
-        Step::Bad(p) => Step::Bad(p),
-    }
-}
-
-// In an attribute's name: to behind its `=`.
-fn equals(file: &[u8], from: usize) -> Step
-    ensures { λ r. ⌜ Reads (tagged attr) (tagged equal) (now (file .entry)) from r ⌝ }
-{
-    let end = runs::name_end(file, from);
-    let sign = runs::blanks_end(file, end);
-    expect(file, sign, b'=')
-}
-
-// Behind `=`: to behind the quoted value.
-fn quoted(file: &[u8], from: usize) -> Step
-    ensures { λ r. ⌜ Reads (tagged equal) (tagged valued) (now (file .entry)) from r ⌝ }
-{
-    let quote = runs::blanks_end(file, from);
-    match expect(file, quote, b'"') {
-        Step::At(value) => {
-            let end = text_runs::value_end(file, value);
-            expect(file, end, b'"')
-        }
-        Step::Bad(p) => Step::Bad(p),
-    }
-}
-
-// In an attribute's name: to behind its value.
-fn attribute(file: &[u8], from: usize) -> Step
-    ensures { λ r. ⌜ Reads (tagged attr) (tagged valued) (now (file .entry)) from r ⌝ }
-{
-    match equals(file, from) {
-        Step::At(next) => quoted(file, next),
-        Step::Bad(p) => Step::Bad(p),
-    }
-}
-
-// Behind a tag's name or an attribute: past all attributes and blanks that follow.
-fn attributes(file: &[u8], from: usize) -> Step
-    ensures { λ r. ⌜ ReadsAttributes (now (file .entry)) from r ⌝ }
-{
-    let mut here = from;
-    while here < file.len() {
-        let next = runs::blanks_end(file, here);
-        if next == here {
-            return Step::At(here);
-        }
-        if file.len() <= next {
-            return Step::At(next);
-        }
-        let b = file[next];
-        if letters::is_start(b) {
-            match attribute(file, next + 1) {
-                Step::At(end) => {
-                    here = end;
-                }
-                Step::Bad(p) => {
-                    return Step::Bad(p);
-                }
-            }
-        } else {
-            return Step::At(next);
-        }
-    }
-    Step::At(here)
-}
-
-// What a start tag ends as: open, for content, or empty.
-enum Tag {
-    Open(usize),
-    Empty(usize),
-    Fault(usize),
-}
-
-// At the end of a start tag, where no blank stands.
-fn tag_end(file: &[u8], from: usize) -> Tag
-    ensures { λ r. ⌜ TagEnd (now (file .entry)) from r ⌝ }
-{
-    if from < file.len() {
-        let b = file[from];
-        if b == b'/' {
-            return match expect(file, from + 1, b'>') {
-                Step::At(end) => Tag::Empty(end),
-                Step::Bad(p) => Tag::Fault(p),
-            };
-        }
-        if b == b'>' {
-            return Tag::Open(from + 1);
-        }
-    }
-    Tag::Fault(from)
-}
-
-// Behind a tag's name: to behind its `>`.
-fn tag_rest(file: &[u8], from: usize) -> Tag
-    ensures { λ r. ⌜ TagRest (now (file .entry)) from r ⌝ }
-{
-    match attributes(file, from) {
-        Step::At(end) => tag_end(file, end),
-        Step::Bad(p) => Tag::Fault(p),
-    }
-}
-
-// The bytes from `name` to `end` must stand here again.
-fn same_name(file: &[u8], name: usize, end: usize, from: usize) -> Step
-    requires { ⌜ (name ≤ end) × (end ≤ length (now file)) ⌝ }
-    ensures { λ r. ⌜ SameName (now (file .entry)) name end from r ⌝ }
-{
-    let mut letter = name;
-    let mut here = from;
-    while letter < end {
-        if file.len() <= here {
-            return Step::Bad(here);
-        }
-        let found = file[here];
-        let wanted = file[letter];
-        if found == wanted {
-            letter += 1;
-            here += 1;
-        } else {
-            return Step::Bad(here);
-        }
-    }
-    Step::At(here)
-}
-
-// Behind `</`: the name from `name` to `end`, blanks and `>`.
-fn end_tag(file: &[u8], name: usize, end: usize, from: usize) -> Step
-    requires { ⌜ (name ≤ end) × (end ≤ length (now file)) ⌝ }
-    ensures { λ r. ⌜ Reads (closing (slice name end (now (file .entry)))) behind (now (file .entry)) from r ⌝ }
-{
-    match same_name(file, name, end, from) {
-        Step::At(next) => {
-            let last = runs::blanks_end(file, next);
-            expect(file, last, b'>')
-        }
-        Step::Bad(p) => Step::Bad(p),
-    }
-}
-
-// What stands next in an element: more content, its end tag, a child, or what cannot stand.
-enum Mark {
-    Again(usize),
-    Close(usize),
-    Child(usize),
-    Stop(usize),
-}
 
 // Behind `<` in an element.
 fn after_lt(file: &[u8], from: usize) -> Mark
@@ -231,7 +28,7 @@ fn after_lt(file: &[u8], from: usize) -> Mark
     if from < file.len() {
         let b = file[from];
         if b == b'!' {
-            return match comment(file, from + 1) {
+            return match remarks::comment(file, from + 1) {
                 Step::At(end) => Mark::Again(end),
                 Step::Bad(p) => Mark::Stop(p),
             };
@@ -251,7 +48,7 @@ fn markup(file: &[u8], from: usize) -> Mark
     ensures { λ r. ⌜ Marks inText (now (file .entry)) from r ⌝ }
 {
     let end = text_runs::text_end(file, from);
-    match expect(file, end, b'<') {
+    match shape_rules::expect(file, end, b'<') {
         Step::At(next) => after_lt(file, next),
         Step::Bad(p) => Mark::Stop(p),
     }
@@ -263,7 +60,7 @@ fn element(file: &[u8], from: usize, left: usize) -> Step
     ensures { λ r. ⌜ ReadsElement (now (file .entry)) from left r ⌝ }
 {
     let end = runs::name_end(file, from + 1);
-    match tag_rest(file, end) {
+    match tags::tag_rest(file, end) {
         Tag::Fault(p) => Step::Bad(p),
         Tag::Empty(past) => Step::At(past),
         Tag::Open(inner) => {
@@ -272,7 +69,7 @@ fn element(file: &[u8], from: usize, left: usize) -> Step
                 match markup(file, here) {
                     Mark::Stop(p) => return Step::Bad(p),
                     Mark::Again(next) => here = next,
-                    Mark::Close(name) => return end_tag(file, from, end, name),
+                    Mark::Close(name) => return tags::end_tag(file, &file[from..end], name),
                     Mark::Child(child) => {
                         if left == 0 {
                             return Step::Bad(child);
@@ -293,8 +90,8 @@ fn element(file: &[u8], from: usize, left: usize) -> Step
 fn declaration(file: &[u8], from: usize) -> Step
     ensures { λ r. ⌜ Reads (one (decl mark)) (one (idle before)) (now (file .entry)) from r ⌝ }
 {
-    match expect(file, from, b'x') {
-        Step::At(second) => match expect(file, second, b'm') {
+    match shape_rules::expect(file, from, b'x') {
+        Step::At(second) => match shape_rules::expect(file, second, b'm') {
             Step::At(third) => declared_text(file, third),
             Step::Bad(p) => Step::Bad(p),
         },
@@ -306,11 +103,11 @@ fn declaration(file: &[u8], from: usize) -> Step
 fn declared_text(file: &[u8], from: usize) -> Step
     ensures { λ r. ⌜ Reads (one (decl markXm)) (one (idle before)) (now (file .entry)) from r ⌝ }
 {
-    match expect(file, from, b'l') {
+    match shape_rules::expect(file, from, b'l') {
         Step::At(inner) => {
             let end = text_runs::decl_end(file, inner);
-            match expect(file, end, b'?') {
-                Step::At(last) => expect(file, last, b'>'),
+            match shape_rules::expect(file, end, b'?') {
+                Step::At(last) => shape_rules::expect(file, last, b'>'),
                 Step::Bad(p) => Step::Bad(p),
             }
         }
@@ -334,13 +131,6 @@ fn prolog(file: &[u8]) -> Step
     Step::At(0)
 }
 
-// What stands outside the root: the end, markup that is no comment, or what cannot stand.
-enum Outer {
-    End(usize),
-    Lt(usize),
-    Halt(usize),
-}
-
 // Before or behind the root: past blanks and comments.
 fn misc(file: &[u8], from: usize) -> Outer
     ensures { λ r. ⌜ Outside (now (file .entry)) from r ⌝ }
@@ -358,7 +148,7 @@ fn misc(file: &[u8], from: usize) -> Outer
             }
             let second = file[next + 1];
             if second == b'!' {
-                match comment(file, next + 2) {
+                match remarks::comment(file, next + 2) {
                     Step::At(end) => here = end,
                     Step::Bad(p) => return Outer::Halt(p),
                 }

@@ -5,10 +5,10 @@ use mathlib.Core.Path.{_≡_, refl, ap, _∙_, subst}
 use mathlib.Core.List.{List, _++_, append-assoc}
 use lib.ListN.{take, drop}
 use lib.Seq.{take-add}
-use Rattle.xml.specs.declared.Shape.{Shape}
-use Rattle.xml.specs.declared.Shape.the-variants.{Whole, TooLong, Broken}
+use Rattle.shape_rules.specs.declared.Shape.{Shape}
+use Rattle.shape_rules.specs.declared.Shape.the-variants.{Whole, TooLong, Broken}
 use Rattle.ascii.proofs.Cases.{le-or-lt}
-use Rattle.xml.specs.Shape.{WellShaped, Viable, Longest, Shaped}
+use Rattle.shape_rules.specs.Shape.{WellShaped, Viable, Longest, Shaped}
 
 -- a shorter prefix of a viable one is viable
 shorter : (s : List ℕ) (p q : ℕ) → p ≤ q → Viable (take q s) → Viable (take p s)

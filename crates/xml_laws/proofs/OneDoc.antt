@@ -9,8 +9,8 @@ use lib.Dec.{eqb}
 use borrow.Author.Tests.{eq-eqb, eqb-false}
 use Rattle.ascii.specs.Texts.{_▹_}
 use Rattle.letters.specs.Kinds.{among, isBlank, isStart, isName, isText}
-use Rattle.xml.specs.Shape.{Node, node, Attribute, Items, Run, Name, Spelled, Attributes, Remark, Comment, Content, Element-of, Element, Misc, Prolog, WellShaped}
-use Rattle.xml.proofs.Bytes.{kind-not, blank-not-name, start-is-name, start-not-blank, blank-34, blank-47, blank-60, blank-61, blank-62, name-47, name-61, name-62, start-33, start-47, start-63, value-34, text-60, decl-63}
+use Rattle.shape_rules.specs.Shape.{Node, node, Attribute, Items, Run, Name, Spelled, Attributes, Remark, Comment, Content, Element-of, Element, Misc, Prolog, WellShaped}
+use Rattle.shape_rules.proofs.Bytes.{kind-not, blank-not-name, start-is-name, start-not-blank, blank-34, blank-47, blank-60, blank-61, blank-62, name-47, name-61, name-62, start-33, start-47, start-63, value-34, text-60, decl-63}
 
 -- no byte of the kind stands first
 abbrev pub Stops : (ℕ → Bool) → List ℕ → Type 0

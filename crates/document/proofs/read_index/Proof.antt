@@ -3,7 +3,7 @@ use borrow.Author.Needs.{needs}
 use Rattle.document.proofs.read_index.Statement.{statement}
 use Rattle.document.proofs.read_index.Tie as tie
 use mathlib.Core.Path.{subst}
-use Rattle.xml.specs.Shape.{Shaped}
+use Rattle.shape_rules.specs.Shape.{Shaped}
 use Rattle.document_rules.proofs.Laws.{indexes-whole, indexes-long, indexes-broken}
 
 read-shape-requires : tie.Need-read-shape-requires

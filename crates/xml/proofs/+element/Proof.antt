@@ -1,25 +1,26 @@
 -- `xml::element` meets its contract. The cycle's measure: how much deeper elements may nest. The loop's invariant: from here the content goes on as from the element's name.
-use Prim.Native.Nat.{ℕ, _<_, _-_, _+_}
+use Prim.Native.Nat.{ℕ, _<_}
 use borrow.Fn.Kinds.{In}
 use borrow.Fn.PlainCycle.{Measures, is, falls, and}
 use Rattle.xml.proofs.element.Reads as element
 use Rattle.xml.proofs.element.Kinds as element-kinds
 use Rattle.xml.proofs.+element.Lts-element as element-lts
 use Rattle.runs.proofs.name_end.Reads as name-end-reads
-use Rattle.xml.proofs.end_tag.Reads as end-tag-reads
+use Rattle.tags.proofs.end_tag.Reads as end-tag-reads
+use Rattle.tags.proofs.tag_rest.Reads as tag-rest-reads
 use Rattle.xml.proofs.markup.Reads as markup-reads
-use Rattle.xml.proofs.tag_rest.Reads as tag-rest-reads
 use Rattle.xml.proofs.+element.{statement}
 use Rattle.xml.proofs.+element.Tie.{close}
-use Rattle.xml.proofs.Elements.{lt-deep, tagged-run, tagged-past, name-low, name-high, mark-run, mark-past, child-run}
-use Rattle.xml.proofs.Run.{at-end}
-use Rattle.xml.proofs.Steps.{past-from, then-at, then-bad, past-at}
-use Rattle.xml.specs.Machine.{tag, name, at}
-use Rattle.xml.specs.Reads.{inText}
+use Prim.Native.Nat.{ℕ, _<_, _-_, _+_}
+use Rattle.shape_rules.proofs.Elements.{lt-deep, tagged-run, tagged-past, name-low, name-high, mark-run, mark-past, child-run, part-is}
+use Rattle.shape_rules.proofs.Run.{at-end}
+use Rattle.shape_rules.proofs.Steps.{past-from, then-at, then-bad, past-at}
+use Rattle.shape_rules.specs.Machine.{tag, name, at}
+use Rattle.shape_rules.specs.Reads.{inText, closing}
 use lib.ListN.{length, getD}
 use lib.Seq.{slice}
 use mathlib.Core.List.{List, [], _∷_}
-use mathlib.Core.Path.{_≡_, sym, _∙_}
+use mathlib.Core.Path.{_≡_, sym, ap, _∙_}
 use native.Mathlib.Omega.{arith}
 use borrow.Author.Needs.{needs}
 
@@ -57,7 +58,7 @@ element-enum-known-inner : (t : ℕ) → element-lts.Need-enum-known-inner (name
 element-enum-known-inner t c = search needs
 
 element-loop-holds : (t : ℕ) → element-lts.Need-loop-holds (name-end-reads.Asked, name-end-reads.Learnt, tag-rest-reads.Asked, tag-rest-reads.Learnt, markup-reads.Asked, markup-reads.Learnt, end-tag-reads.Asked, end-tag-reads.Learnt, element-below t, element.Post) (element-at t) element.Post element-Inv-loop element-μ-loop
-element-loop-holds t c = let g = tagged-past (c .before .before .before .before .before .before .args .file .now) (c .before .before .before .before .before .before .args .from) (c .before .before .before .before .name-end .result) (c .before .before .before .tag-rest .result) (c .before .before .before .before .before .before .pre .1) (c .before .before .before .before .name-end .ensures) (c .before .before .before .tag-rest .ensures) (c .before .inner .given .1) in let l = name-low (c .before .before .before .before .before .before .args .file .now) (c .before .before .before .before .before .before .args .from) (c .before .before .before .before .name-end .result) (c .before .before .before .tag-rest .result) (c .before .before .before .before .before .before .pre .1) (c .before .before .before .before .name-end .ensures) (c .before .before .before .tag-rest .ensures) in (omega (arith, g .0, l), λ k q. sym (tagged-run (c .before .before .before .before .before .before .args .file .now) (c .before .before .before .before .before .before .args .from) (c .before .before .before .before .name-end .result) (c .before .before .before .tag-rest .result) (c .before .before .before .before .before .before .pre .1) (c .before .before .before .before .name-end .ensures) (c .before .before .before .tag-rest .ensures) k (c .before .inner .given .1)))
+element-loop-holds t c = let g = tagged-past (c .before .before .before .before .before .before .args .file .now) (c .before .before .before .before .before .before .args .from) (c .before .before .before .before .name-end .result) (c .before .before .before .tag-rest .result) (c .before .before .before .before .before .before .pre .1) (c .before .before .before .before .name-end .ensures) (c .before .before .before .tag-rest .ensures .0) (c .before .inner .given .1) in let l = name-low (c .before .before .before .before .before .before .args .file .now) (c .before .before .before .before .before .before .args .from) (c .before .before .before .before .name-end .result) (c .before .before .before .tag-rest .result) (c .before .before .before .before .before .before .pre .1) (c .before .before .before .before .name-end .ensures) (c .before .before .before .tag-rest .ensures .0) in (omega (arith, g .0, l), λ k q. sym (tagged-run (c .before .before .before .before .before .before .args .file .now) (c .before .before .before .before .before .before .args .from) (c .before .before .before .before .name-end .result) (c .before .before .before .tag-rest .result) (c .before .before .before .before .before .before .pre .1) (c .before .before .before .before .name-end .ensures) (c .before .before .before .tag-rest .ensures .0) k (c .before .inner .given .1)))
 
 element-markup-requires : (t : ℕ) → element-lts.Need-markup-requires (name-end-reads.Asked, name-end-reads.Learnt, tag-rest-reads.Asked, tag-rest-reads.Learnt, markup-reads.Asked, markup-reads.Learnt, end-tag-reads.Asked, end-tag-reads.Learnt, element-below t, element.Post) (element-at t) element.Post element-Inv-loop element-μ-loop
 element-markup-requires t c κs = search needs
@@ -80,11 +81,20 @@ element-loop-again t c = let h = mark-past (c .before .before .before .before .b
 element-enum-known-name : (t : ℕ) → element-lts.Need-enum-known-name (name-end-reads.Asked, name-end-reads.Learnt, tag-rest-reads.Asked, tag-rest-reads.Learnt, markup-reads.Asked, markup-reads.Learnt, end-tag-reads.Asked, end-tag-reads.Learnt, element-below t, element.Post) (element-at t) element.Post element-Inv-loop element-μ-loop
 element-enum-known-name t c = search needs
 
+element-sub-end-tag : (t : ℕ) → element-lts.Need-sub-end-tag (name-end-reads.Asked, name-end-reads.Learnt, tag-rest-reads.Asked, tag-rest-reads.Learnt, markup-reads.Asked, markup-reads.Learnt, end-tag-reads.Asked, end-tag-reads.Learnt, element-below t, element.Post) (element-at t) element.Post element-Inv-loop element-μ-loop
+element-sub-end-tag t c = let l = name-low (c .before .before .before .before .before .before .before .before .before .before .before .before .args .file .now) (c .before .before .before .before .before .before .before .before .before .before .before .before .args .from) (c .before .before .before .before .before .before .before .before .before .before .name-end .result) (c .before .before .before .before .before .before .before .before .before .tag-rest .result) (c .before .before .before .before .before .before .before .before .before .before .before .before .pre .1) (c .before .before .before .before .before .before .before .before .before .before .name-end .ensures) (c .before .before .before .before .before .before .before .before .before .tag-rest .ensures .0) in omega (arith, l)
+
+element-part-end-tag-start : (t : ℕ) → element-lts.Need-part-end-tag-start (name-end-reads.Asked, name-end-reads.Learnt, tag-rest-reads.Asked, tag-rest-reads.Learnt, markup-reads.Asked, markup-reads.Learnt, end-tag-reads.Asked, end-tag-reads.Learnt, element-below t, element.Post) (element-at t) element.Post element-Inv-loop element-μ-loop
+element-part-end-tag-start t c = let l = name-low (c .before .before .before .before .before .before .before .before .before .before .before .before .args .file .now) (c .before .before .before .before .before .before .before .before .before .before .before .before .args .from) (c .before .before .before .before .before .before .before .before .before .before .name-end .result) (c .before .before .before .before .before .before .before .before .before .tag-rest .result) (c .before .before .before .before .before .before .before .before .before .before .before .before .pre .1) (c .before .before .before .before .before .before .before .before .before .before .name-end .ensures) (c .before .before .before .before .before .before .before .before .before .tag-rest .ensures .0) in let g = name-high (c .before .before .before .before .before .before .before .before .before .before .before .before .args .file .now) (c .before .before .before .before .before .before .before .before .before .before .before .before .args .from) (c .before .before .before .before .before .before .before .before .before .before .name-end .result) (c .before .before .before .before .before .before .before .before .before .tag-rest .result) (c .before .before .before .before .before .before .before .before .before .before .before .before .pre .1) (c .before .before .before .before .before .before .before .before .before .before .name-end .ensures) (c .before .before .before .before .before .before .before .before .before .tag-rest .ensures .0) in omega (arith, l, g)
+
+element-part-end-tag-end : (t : ℕ) → element-lts.Need-part-end-tag-end (name-end-reads.Asked, name-end-reads.Learnt, tag-rest-reads.Asked, tag-rest-reads.Learnt, markup-reads.Asked, markup-reads.Learnt, end-tag-reads.Asked, end-tag-reads.Learnt, element-below t, element.Post) (element-at t) element.Post element-Inv-loop element-μ-loop
+element-part-end-tag-end t c = name-high (c .before .before .before .before .before .before .before .before .before .before .before .before .args .file .now) (c .before .before .before .before .before .before .before .before .before .before .before .before .args .from) (c .before .before .before .before .before .before .before .before .before .before .name-end .result) (c .before .before .before .before .before .before .before .before .before .tag-rest .result) (c .before .before .before .before .before .before .before .before .before .before .before .before .pre .1) (c .before .before .before .before .before .before .before .before .before .before .name-end .ensures) (c .before .before .before .before .before .before .before .before .before .tag-rest .ensures .0)
+
 element-end-tag-requires : (t : ℕ) → element-lts.Need-end-tag-requires (name-end-reads.Asked, name-end-reads.Learnt, tag-rest-reads.Asked, tag-rest-reads.Learnt, markup-reads.Asked, markup-reads.Learnt, end-tag-reads.Asked, end-tag-reads.Learnt, element-below t, element.Post) (element-at t) element.Post element-Inv-loop element-μ-loop
-element-end-tag-requires t c κs = let l = name-low (c .before .before .before .before .before .before .before .before .before .before .before .before .args .file .now) (c .before .before .before .before .before .before .before .before .before .before .before .before .args .from) (c .before .before .before .before .before .before .before .before .before .before .name-end .result) (c .before .before .before .before .before .before .before .before .before .tag-rest .result) (c .before .before .before .before .before .before .before .before .before .before .before .before .pre .1) (c .before .before .before .before .before .before .before .before .before .before .name-end .ensures) (c .before .before .before .before .before .before .before .before .before .tag-rest .ensures) in (omega (arith, l), name-high (c .before .before .before .before .before .before .before .before .before .before .before .before .args .file .now) (c .before .before .before .before .before .before .before .before .before .before .before .before .args .from) (c .before .before .before .before .before .before .before .before .before .before .name-end .result) (c .before .before .before .before .before .before .before .before .before .tag-rest .result) (c .before .before .before .before .before .before .before .before .before .before .before .before .pre .1) (c .before .before .before .before .before .before .before .before .before .before .name-end .ensures) (c .before .before .before .before .before .before .before .before .before .tag-rest .ensures))
+element-end-tag-requires t c κs = search needs
 
 element-returns-2 : (t : ℕ) → element-lts.Need-returns-2 (name-end-reads.Asked, name-end-reads.Learnt, tag-rest-reads.Asked, tag-rest-reads.Learnt, markup-reads.Asked, markup-reads.Learnt, end-tag-reads.Asked, end-tag-reads.Learnt, element-below t, element.Post) (element-at t) element.Post element-Inv-loop element-μ-loop
-element-returns-2 t c = let h = mark-past (c .before .before .before .before .before .before .before .before .before .before .before .before .before .args .file .now) (c .before .before .before .before .before .before .loop .here) (c .before .before .before .before .markup .result) (c .before .before .before .before .markup .ensures) (c .before .before .name .given .1) in record { run = λ k q. sym (c .before .before .before .before .before .before .loop .inv .1 k q) ∙ mark-run (c .before .before .before .before .before .before .before .before .before .before .before .before .before .args .file .now) (c .before .before .before .before .before .before .loop .here) (c .before .before .before .before .markup .result) (c .before .before .before .before .markup .ensures) (c .before .before .name .given .1) (k, slice (c .before .before .before .before .before .before .before .before .before .before .before .before .before .args .from) (c .before .before .before .before .before .before .before .before .before .before .before .name-end .result) (c .before .before .before .before .before .before .before .before .before .before .before .before .before .args .file .now)) ∙ c .end-tag .ensures .run k; past = past-from (c .before .before .before .before .before .before .before .before .before .before .before .before .before .args .file .now) (c .before .before .before .before .before .before .before .before .before .before .before .before .before .args .from) (c .before .before .name .given .0 .0) (c .end-tag .result) (omega (arith, h .0, c .before .before .before .before .before .before .loop .inv .0)) (c .end-tag .ensures .past) }
+element-returns-2 t c = let h = mark-past (c .before .before .before .before .before .before .before .before .before .before .before .before .before .before .args .file .now) (c .before .before .before .before .before .before .before .loop .here) (c .before .before .before .before .before .markup .result) (c .before .before .before .before .before .markup .ensures) (c .before .before .before .name .given .1) in let l = name-low (c .before .before .before .before .before .before .before .before .before .before .before .before .before .before .args .file .now) (c .before .before .before .before .before .before .before .before .before .before .before .before .before .before .args .from) (c .before .before .before .before .before .before .before .before .before .before .before .before .name-end .result) (c .before .before .before .before .before .before .before .before .before .before .before .tag-rest .result) (c .before .before .before .before .before .before .before .before .before .before .before .before .before .before .pre .1) (c .before .before .before .before .before .before .before .before .before .before .before .before .name-end .ensures) (c .before .before .before .before .before .before .before .before .before .before .before .tag-rest .ensures .0) in let e = part-is (c .before .before .before .before .before .before .before .before .before .before .before .before .before .before .args .file .now) (c .before .before .before .before .before .before .before .before .before .before .before .before .before .before .args .from) (c .before .before .before .before .before .before .before .before .before .before .before .before .name-end .result) (omega (arith, l)) (name-high (c .before .before .before .before .before .before .before .before .before .before .before .before .before .before .args .file .now) (c .before .before .before .before .before .before .before .before .before .before .before .before .before .before .args .from) (c .before .before .before .before .before .before .before .before .before .before .before .before .name-end .result) (c .before .before .before .before .before .before .before .before .before .before .before .tag-rest .result) (c .before .before .before .before .before .before .before .before .before .before .before .before .before .before .pre .1) (c .before .before .before .before .before .before .before .before .before .before .before .before .name-end .ensures) (c .before .before .before .before .before .before .before .before .before .before .before .tag-rest .ensures .0)) in record { run = λ k q. sym (c .before .before .before .before .before .before .before .loop .inv .1 k q) ∙ mark-run (c .before .before .before .before .before .before .before .before .before .before .before .before .before .before .args .file .now) (c .before .before .before .before .before .before .before .loop .here) (c .before .before .before .before .before .markup .result) (c .before .before .before .before .before .markup .ensures) (c .before .before .before .name .given .1) (k, slice (c .before .before .before .before .before .before .before .before .before .before .before .before .before .before .args .from) (c .before .before .before .before .before .before .before .before .before .before .before .before .name-end .result) (c .before .before .before .before .before .before .before .before .before .before .before .before .before .before .args .file .now)) ∙ ap (λ (n : List ℕ). at (closing n k) (c .before .before .before .before .before .before .before .before .before .before .before .before .before .before .args .file .now) (c .before .before .before .name .given .0 .0)) (sym e) ∙ c .end-tag .ensures .0 .run k; past = past-from (c .before .before .before .before .before .before .before .before .before .before .before .before .before .before .args .file .now) (c .before .before .before .before .before .before .before .before .before .before .before .before .before .before .args .from) (c .before .before .before .name .given .0 .0) (c .end-tag .result) (omega (arith, h .0, c .before .before .before .before .before .before .before .loop .inv .0)) (c .end-tag .ensures .0 .past) }
 
 element-enum-known-child : (t : ℕ) → element-lts.Need-enum-known-child (name-end-reads.Asked, name-end-reads.Learnt, tag-rest-reads.Asked, tag-rest-reads.Learnt, markup-reads.Asked, markup-reads.Learnt, end-tag-reads.Asked, end-tag-reads.Learnt, element-below t, element.Post) (element-at t) element.Post element-Inv-loop element-μ-loop
 element-enum-known-child t c = search needs
@@ -114,10 +124,10 @@ element-returns-4 : (t : ℕ) → element-lts.Need-returns-4 (name-end-reads.Ask
 element-returns-4 t c = let h = mark-past (c .before .before .before .before .before .before .before .before .before .before .before .before .before .before .before .before .before .args .file .now) (c .before .before .before .before .before .before .before .before .before .before .loop .here) (c .before .before .before .before .before .before .before .before .markup .result) (c .before .before .before .before .before .before .before .before .markup .ensures) (c .before .before .before .before .before .before .child .given .1) in record { run = λ k q. sym (c .before .before .before .before .before .before .before .before .before .before .loop .inv .1 k q) ∙ mark-run (c .before .before .before .before .before .before .before .before .before .before .before .before .before .before .before .before .before .args .file .now) (c .before .before .before .before .before .before .before .before .before .before .loop .here) (c .before .before .before .before .before .before .before .before .markup .result) (c .before .before .before .before .before .before .before .before .markup .ensures) (c .before .before .before .before .before .before .child .given .1) (k, slice (c .before .before .before .before .before .before .before .before .before .before .before .before .before .before .before .before .before .args .from) (c .before .before .before .before .before .before .before .before .before .before .before .before .before .before .before .name-end .result) (c .before .before .before .before .before .before .before .before .before .before .before .before .before .before .before .before .before .args .file .now)) ∙ then-bad (inText (k, slice (c .before .before .before .before .before .before .before .before .before .before .before .before .before .before .before .before .before .args .from) (c .before .before .before .before .before .before .before .before .before .before .before .before .before .before .before .name-end .result) (c .before .before .before .before .before .before .before .before .before .before .before .before .before .before .before .before .before .args .file .now))) (c .before .before .before .before .before .before .before .before .before .before .before .before .before .before .before .before .before .args .file .now) (c .before .before .before .element .result) (child-run (c .before .before .before .before .before .before .before .before .before .before .before .before .before .before .before .before .before .args .file .now) (k, slice (c .before .before .before .before .before .before .before .before .before .before .before .before .before .before .before .before .before .args .from) (c .before .before .before .before .before .before .before .before .before .before .before .before .before .before .before .name-end .result) (c .before .before .before .before .before .before .before .before .before .before .before .before .before .before .before .before .before .args .file .now)) (c .before .before .before .before .before .before .child .given .0 .0) (c .before .before .before .before .before .before .before .before .before .before .before .before .before .before .before .before .before .args .left) (c .before .before .before .element .result) (h .1) (h .2) (c .before .before .before .before .if1 .left) q (c .before .before .before .element .ensures)) (c .before .p3 .given .1); past = tt }
 
 element-returns-5 : (t : ℕ) → element-lts.Need-returns-5 (name-end-reads.Asked, name-end-reads.Learnt, tag-rest-reads.Asked, tag-rest-reads.Learnt, markup-reads.Asked, markup-reads.Learnt, end-tag-reads.Asked, end-tag-reads.Learnt, element-below t, element.Post) (element-at t) element.Post element-Inv-loop element-μ-loop
-element-returns-5 t c = record { run = λ k q. tagged-run (c .before .before .before .before .before .before .args .file .now) (c .before .before .before .before .before .before .args .from) (c .before .before .before .before .name-end .result) (c .before .before .before .tag-rest .result) (c .before .before .before .before .before .before .pre .1) (c .before .before .before .before .name-end .ensures) (c .before .before .before .tag-rest .ensures) k (c .before .p .given .1); past = tt }
+element-returns-5 t c = record { run = λ k q. tagged-run (c .before .before .before .before .before .before .args .file .now) (c .before .before .before .before .before .before .args .from) (c .before .before .before .before .name-end .result) (c .before .before .before .tag-rest .result) (c .before .before .before .before .before .before .pre .1) (c .before .before .before .before .name-end .ensures) (c .before .before .before .tag-rest .ensures .0) k (c .before .p .given .1); past = tt }
 
 element-returns-6 : (t : ℕ) → element-lts.Need-returns-6 (name-end-reads.Asked, name-end-reads.Learnt, tag-rest-reads.Asked, tag-rest-reads.Learnt, markup-reads.Asked, markup-reads.Learnt, end-tag-reads.Asked, end-tag-reads.Learnt, element-below t, element.Post) (element-at t) element.Post element-Inv-loop element-μ-loop
-element-returns-6 t c = let g = tagged-past (c .before .before .before .before .before .before .args .file .now) (c .before .before .before .before .before .before .args .from) (c .before .before .before .before .name-end .result) (c .before .before .before .tag-rest .result) (c .before .before .before .before .before .before .pre .1) (c .before .before .before .before .name-end .ensures) (c .before .before .before .tag-rest .ensures) (c .before .past .given .1) in let l = name-low (c .before .before .before .before .before .before .args .file .now) (c .before .before .before .before .before .before .args .from) (c .before .before .before .before .name-end .result) (c .before .before .before .tag-rest .result) (c .before .before .before .before .before .before .pre .1) (c .before .before .before .before .name-end .ensures) (c .before .before .before .tag-rest .ensures) in record { run = λ k q. tagged-run (c .before .before .before .before .before .before .args .file .now) (c .before .before .before .before .before .before .args .from) (c .before .before .before .before .name-end .result) (c .before .before .before .tag-rest .result) (c .before .before .before .before .before .before .pre .1) (c .before .before .before .before .name-end .ensures) (c .before .before .before .tag-rest .ensures) k (c .before .past .given .1); past = (omega (arith, g .0, l), g .1) }
+element-returns-6 t c = let g = tagged-past (c .before .before .before .before .before .before .args .file .now) (c .before .before .before .before .before .before .args .from) (c .before .before .before .before .name-end .result) (c .before .before .before .tag-rest .result) (c .before .before .before .before .before .before .pre .1) (c .before .before .before .before .name-end .ensures) (c .before .before .before .tag-rest .ensures .0) (c .before .past .given .1) in let l = name-low (c .before .before .before .before .before .before .args .file .now) (c .before .before .before .before .before .before .args .from) (c .before .before .before .before .name-end .result) (c .before .before .before .tag-rest .result) (c .before .before .before .before .before .before .pre .1) (c .before .before .before .before .name-end .ensures) (c .before .before .before .tag-rest .ensures .0) in record { run = λ k q. tagged-run (c .before .before .before .before .before .before .args .file .now) (c .before .before .before .before .before .before .args .from) (c .before .before .before .before .name-end .result) (c .before .before .before .tag-rest .result) (c .before .before .before .before .before .before .pre .1) (c .before .before .before .before .name-end .ensures) (c .before .before .before .tag-rest .ensures .0) k (c .before .past .given .1); past = (omega (arith, g .0, l), g .1) }
 
 element-returns-7 : (t : ℕ) → element-lts.Need-returns-7 (name-end-reads.Asked, name-end-reads.Learnt, tag-rest-reads.Asked, tag-rest-reads.Learnt, markup-reads.Asked, markup-reads.Learnt, end-tag-reads.Asked, end-tag-reads.Learnt, element-below t, element.Post) (element-at t) element.Post element-Inv-loop element-μ-loop
 element-returns-7 t c = record { run = λ k q. sym (c .before .loop .inv .1 k q) ∙ at-end (inText (k, slice (c .before .before .before .before .before .before .before .before .args .from) (c .before .before .before .before .before .before .name-end .result) (c .before .before .before .before .before .before .before .before .args .file .now))) (c .before .before .before .before .before .before .before .before .args .file .now) (c .before .loop .here) (c .loop-test .left); past = tt }
@@ -142,6 +152,9 @@ pub +element-spec : {M : Type 1} → statement M
     (element-loop-less t)
     (element-loop-again t)
     (element-enum-known-name t)
+    (element-sub-end-tag t)
+    (element-part-end-tag-start t)
+    (element-part-end-tag-end t)
     (element-end-tag-requires t)
     (element-returns-2 t)
     (element-enum-known-child t)

@@ -2,9 +2,9 @@
 use borrow.Author.Needs.{needs}
 use Rattle.xml.proofs.markup.Statement.{statement}
 use Rattle.xml.proofs.markup.Tie as tie
-use Rattle.xml.proofs.Elements.{text-reads, mark-then}
-use Rattle.xml.proofs.Steps.{then-bad}
-use Rattle.xml.specs.Reads.{inLt}
+use Rattle.shape_rules.proofs.Elements.{text-reads, mark-then}
+use Rattle.shape_rules.proofs.Steps.{then-bad}
+use Rattle.shape_rules.specs.Reads.{inLt}
 
 text-end-requires : tie.Need-text-end-requires
 text-end-requires c κs = search needs
@@ -22,10 +22,10 @@ enum-known-p : tie.Need-enum-known-p
 enum-known-p c = search needs
 
 returns : tie.Need-returns
-returns c = mark-then (c .before .before .before .before .before .before .before .args .file .now) (c .before .before .before .before .before .before .before .args .from) (c .before .before .next .given .0 .0) (c .before .before .before .before .expect .result) (c .after-lt .result) (text-reads (c .before .before .before .before .before .before .before .args .file .now) (c .before .before .before .before .before .before .before .args .from) (c .before .before .before .before .before .text-end .result) (c .before .before .before .before .expect .result) (c .before .before .before .before .before .text-end .ensures) (c .before .before .before .before .expect .ensures)) (c .before .before .next .given .1) (c .after-lt .ensures)
+returns c = mark-then (c .before .before .before .before .before .before .before .args .file .now) (c .before .before .before .before .before .before .before .args .from) (c .before .before .next .given .0 .0) (c .before .before .before .before .expect .result) (c .after-lt .result) (text-reads (c .before .before .before .before .before .before .before .args .file .now) (c .before .before .before .before .before .before .before .args .from) (c .before .before .before .before .before .text-end .result) (c .before .before .before .before .expect .result) (c .before .before .before .before .before .text-end .ensures) (c .before .before .before .before .expect .ensures .0)) (c .before .before .next .given .1) (c .after-lt .ensures)
 
 returns-2 : tie.Need-returns-2
-returns-2 c = record { run = λ x. then-bad (inLt x) (c .before .before .before .before .before .before .args .file .now) (c .before .before .before .expect .result) ((text-reads (c .before .before .before .before .before .before .args .file .now) (c .before .before .before .before .before .before .args .from) (c .before .before .before .before .text-end .result) (c .before .before .before .expect .result) (c .before .before .before .before .text-end .ensures) (c .before .before .before .expect .ensures)) .run x) (c .before .p .given .1); past = tt }
+returns-2 c = record { run = λ x. then-bad (inLt x) (c .before .before .before .before .before .before .args .file .now) (c .before .before .before .expect .result) ((text-reads (c .before .before .before .before .before .before .args .file .now) (c .before .before .before .before .before .before .args .from) (c .before .before .before .before .text-end .result) (c .before .before .before .expect .result) (c .before .before .before .before .text-end .ensures) (c .before .before .before .expect .ensures .0)) .run x) (c .before .p .given .1); past = tt }
 
 pub markup-spec : {M : Type 1} → statement M
 markup-spec =

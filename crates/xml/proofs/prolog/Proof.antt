@@ -2,7 +2,7 @@
 use borrow.Author.Needs.{needs}
 use Rattle.xml.proofs.prolog.Statement.{statement}
 use Rattle.xml.proofs.prolog.Tie as tie
-use Rattle.xml.proofs.Files.{start-decl, start-none}
+use Rattle.shape_rules.proofs.Files.{start-decl, start-none}
 use mathlib.Core.Path.{_∙_}
 use native.Mathlib.Omega.{arith}
 

@@ -2,10 +2,10 @@
 use borrow.Author.Needs.{needs}
 use Rattle.xml.proofs.read_shape.Statement.{statement}
 use Rattle.xml.proofs.read_shape.Tie as tie
-use Rattle.xml.proofs.Steps.{then-at, then-bad}
-use Rattle.xml.proofs.Viability.{by-run}
-use Rattle.xml.specs.Machine.{idle, before, after}
-use Rattle.xml.specs.Reads.{asShape}
+use Rattle.shape_rules.proofs.Steps.{then-at, then-bad}
+use Rattle.shape_rules.proofs.Viability.{by-run}
+use Rattle.shape_rules.specs.Machine.{idle, before, after}
+use Rattle.shape_rules.specs.Reads.{asShape}
 use mathlib.Core.Path.{sym, ap, _∙_}
 
 returns : tie.Need-returns

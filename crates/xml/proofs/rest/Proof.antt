@@ -2,11 +2,11 @@
 use borrow.Author.Needs.{needs}
 use Rattle.xml.proofs.rest.Statement.{statement}
 use Rattle.xml.proofs.rest.Tie as tie
-use Rattle.xml.proofs.Files.{lt-after}
-use Rattle.xml.proofs.Run.{at-end}
-use Rattle.xml.specs.Machine.{idle, after}
-use Rattle.xml.specs.Reads.{goesOuter, Found, asShape}
-use Rattle.xml.specs.declared.Outer.{Outer}
+use Rattle.shape_rules.proofs.Files.{lt-after}
+use Rattle.shape_rules.proofs.Run.{at-end}
+use Rattle.shape_rules.specs.Machine.{idle, after}
+use Rattle.shape_rules.specs.Reads.{goesOuter, Found, asShape}
+use Rattle.shape_rules.specs.declared.Outer.{Outer}
 use mathlib.Core.Bool.{false}
 use mathlib.Core.Path.{sym, ap, _∙_, subst}
 

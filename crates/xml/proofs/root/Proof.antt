@@ -2,11 +2,11 @@
 use borrow.Author.Needs.{needs}
 use Rattle.xml.proofs.root.Statement.{statement}
 use Rattle.xml.proofs.root.Tie as tie
-use Rattle.xml.proofs.Files.{root-start, root-bad}
-use Rattle.xml.proofs.Run.{at-end}
-use Rattle.xml.specs.Machine.{idle, lt, before}
-use Rattle.xml.specs.Reads.{goesOuter, Found}
-use Rattle.xml.specs.declared.Outer.{Outer}
+use Rattle.shape_rules.proofs.Files.{root-start, root-bad}
+use Rattle.shape_rules.proofs.Run.{at-end}
+use Rattle.shape_rules.specs.Machine.{idle, lt, before}
+use Rattle.shape_rules.specs.Reads.{goesOuter, Found}
+use Rattle.shape_rules.specs.declared.Outer.{Outer}
 use mathlib.Core.Bool.{true}
 use mathlib.Core.Path.{refl, sym, ap, _∙_, subst}
 
