@@ -1,20 +1,16 @@
 -- Where a reader of one byte comes to, as a function of the bytes, and how readers follow each other: these settle the answers, where Reads.antt says what they mean.
 use Prim.Native.Nat.{ℕ, _+_}
 use mathlib.Core.List.{List, [], _∷_}
-use mathlib.Core.Bool.{Bool, true, false}
+use mathlib.Core.Bool.{cond}
 use lib.Dec.{eqb}
 use lib.ListN.{drop}
 use Rattle.shape_rules.specs.declared.Step.{Step}
 use Rattle.shape_rules.specs.declared.Step.the-variants.{At, Bad}
 
-abbrev pub either : Bool → Step → Step → Step
-either true a b = a
-either false a b = b
-
 -- b must stand first in the text, which starts at offset i
 abbrev pub firstIs : ℕ → List ℕ → ℕ → Step
 firstIs b [] i = Bad i
-firstIs b (c ∷ s) i = either (eqb c b) (At (i + 1)) (Bad i)
+firstIs b (c ∷ s) i = cond (eqb c b) (At (i + 1)) (Bad i)
 
 -- b must stand at offset i of s
 abbrev pub expected : ℕ → List ℕ → ℕ → Step

@@ -1,7 +1,7 @@
 -- Where the readers of tags come to, as functions of the bytes. The bytes: 34 `"`, 47 `/`, 61 `=`, 62 `>`.
 use Prim.Native.Nat.{ℕ, zero, suc, _+_}
 use mathlib.Core.List.{List, [], _∷_}
-use mathlib.Core.Bool.{Bool, true, false}
+use mathlib.Core.Bool.{cond}
 use lib.Dec.{ltb, eqb}
 use lib.ListN.{length, getD, drop}
 use Rattle.letters.specs.Kinds.{isBlank, isStart, isName, isValue, spanAt}
@@ -9,7 +9,7 @@ use Rattle.shape_rules.specs.declared.Step.{Step}
 use Rattle.shape_rules.specs.declared.Step.the-variants.{At, Bad}
 use Rattle.shape_rules.specs.declared.Tag.{Tag}
 use Rattle.shape_rules.specs.declared.Tag.the-variants.{Open, Empty, Fault}
-use Rattle.shape_rules.specs.Ends.{either, firstIs, expected, onward}
+use Rattle.shape_rules.specs.Ends.{firstIs, expected, onward}
 
 -- behind the blanks at offset i of s
 abbrev pub blanksEnd : List ℕ → ℕ → ℕ
@@ -28,7 +28,7 @@ attributeEnd s i = onward (equalsEnd s i) (quotedEnd s)
 
 -- with blanks from i to k: an attribute if a blank stands before it, and f behind it
 abbrev pub attributesTurn : List ℕ → (ℕ → Step) → ℕ → ℕ → Step
-attributesTurn s f i k = either (ltb i k) (either (isStart (getD s k 0)) (onward (attributeEnd s (k + 1)) f) (At k)) (At k)
+attributesTurn s f i k = cond (ltb i k) (cond (isStart (getD s k 0)) (onward (attributeEnd s (k + 1)) f) (At k)) (At k)
 
 -- behind a tag's name or an attribute: past the attributes and blanks that follow, n turns at most
 unfoldable pub attributesFrom : ℕ → List ℕ → ℕ → Step
@@ -39,10 +39,6 @@ attributesFrom (suc n) s i = attributesTurn s (attributesFrom n s) i (blanksEnd 
 abbrev pub attributesEnd : List ℕ → ℕ → Step
 attributesEnd s i = attributesFrom (length s) s i
 
-abbrev pub eitherTag : Bool → Tag → Tag → Tag
-eitherTag true a b = a
-eitherTag false a b = b
-
 abbrev pub emptied : Step → Tag
 emptied (At j) = Empty j
 emptied (Bad p) = Fault p
@@ -50,7 +46,7 @@ emptied (Bad p) = Fault p
 -- the text, which starts at offset i, must end a start tag: `/>` or `>`
 abbrev pub endIn : List ℕ → ℕ → Tag
 endIn [] i = Fault i
-endIn (b ∷ s) i = eitherTag (eqb b 47) (emptied (firstIs 62 s (i + 1))) (eitherTag (eqb b 62) (Open (i + 1)) (Fault i))
+endIn (b ∷ s) i = cond (eqb b 47) (emptied (firstIs 62 s (i + 1))) (cond (eqb b 62) (Open (i + 1)) (Fault i))
 
 abbrev pub endBehind : List ℕ → Step → Tag
 endBehind s (At j) = endIn (drop j s) j
@@ -64,7 +60,7 @@ tagRest s i = endBehind s (attributesEnd s i)
 unfoldable pub sameIn : List ℕ → List ℕ → ℕ → Step
 sameIn [] s i = At i
 sameIn (a ∷ n) [] i = Bad i
-sameIn (a ∷ n) (b ∷ s) i = either (eqb b a) (sameIn n s (i + 1)) (Bad i)
+sameIn (a ∷ n) (b ∷ s) i = cond (eqb b a) (sameIn n s (i + 1)) (Bad i)
 
 -- behind `</`: the name, blanks and `>`
 abbrev pub endTag : List ℕ → List ℕ → ℕ → Step
