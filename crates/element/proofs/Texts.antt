@@ -17,7 +17,7 @@ use Rattle.walk_rules.specs.Text.{joined, trimmed}
 use Rattle.walk_rules.specs.Stands.{ElementAt}
 use Rattle.walk_rules.specs.Steps.{itemAt, contentAt, walkItems, texting, skipped, innerStart, textOf, stray, trimAt, Laid}
 use Rattle.walk_rules.proofs.Bounds.{ItemFrom, item-bounds, BodyFrom, content-bounds, skipped-bounds}
-use Rattle.walk_laws.proofs.Slices.{slice-part}
+use Rattle.shape_rules.proofs.Slices.{slice-part}
 use Rattle.walk_laws.proofs.Buffers.{laid-room, laid-long}
 use Rattle.walk_laws.proofs.Trims.{trim-law, trim-bounds}
 use Rattle.walk_laws.proofs.Laws.{text-law, has-none-law}

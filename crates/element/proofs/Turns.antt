@@ -12,7 +12,7 @@ use Rattle.walk_rules.specs.declared.Part.{Part}
 use Rattle.walk_rules.specs.declared.TagPart.{TagPart}
 use Rattle.walk_rules.specs.Steps as walk
 use Rattle.walk_rules.proofs.Bounds.{PartFrom, part-bounds, part-from, part-over}
-use Rattle.walk_laws.proofs.Slices.{slice-part}
+use Rattle.shape_rules.proofs.Slices.{slice-part}
 use Rattle.walk_rules.proofs.Turns.{Turn, start, next, done, over}
 use Rattle.schema.specs.declared.Kind.{Kind}
 use Rattle.schema.specs.declared.Asked.{Asked}

@@ -1,12 +1,11 @@
 -- What the readers of an element's content do.
 use Prim.Native.Nat.{ℕ, _+_, _-_, _≤_, _<_}
 use native.Mathlib.Omega.{arith}
-use native.Mathlib.Numerals.{add-one}
 use mathlib.Core.Path.{_≡_, refl, sym, ap, _∙_}
-use mathlib.Core.List.{List, [], _∷_, _++_}
+use mathlib.Core.List.{List, [], _∷_}
 use mathlib.Core.Bool.{true, false}
-use lib.ListN.{length, getD, drop, take}
-use lib.Seq.{slice, slice-empty, take-add, take-suc, drop-at, drop-append-le, length-take-le}
+use lib.ListN.{length, getD, drop}
+use lib.Seq.{slice, slice-empty}
 use borrow.Author.Tests.{ne-eqb, lt-ltb, le-ltb}
 use Rattle.shape_rules.specs.declared.Step.{Step}
 use Rattle.shape_rules.specs.declared.Step.the-variants.{At}
@@ -19,6 +18,7 @@ use Rattle.ascii.proofs.Spans.{span-more, span-here, span-end, downward, low-of
 use Rattle.shape_rules.specs.Machine.{State, inside, comment, bang, tag, close, name, valued, live, bad, at, goes}
 use Rattle.shape_rules.specs.Reads.{Reads, Expects, Around, tagged, goesTag, PastTag, TagRest, inText, inLt, goesMark, PastMark, Marks, ReadsElement}
 use Rattle.shape_rules.proofs.Bytes.{kind-not, start-33, start-47, text-60}
+use Rattle.shape_rules.proofs.Slices.{slice-snoc}
 use Rattle.shape_rules.proofs.Run.{at-step, at-dead, at-same, run-of}
 use Rattle.shape_rules.proofs.Steps.{past-at, then-at, reads-behind, reads-byte}
 
@@ -54,21 +54,17 @@ text-reads s i j r e x =
 pub mark-then : (s : List ℕ) (i j : ℕ) (r₁ : Step) (r : Mark) → Reads inText inLt s i r₁ → r₁ ≡ At j → Marks inLt s j r → Marks inText s i r
 mark-then s i j r₁ r x q y = record { run = λ a. then-at (inLt a) s r₁ (x .run a) q ∙ y .run a; past = let h = past-at s i r₁ (x .past) q in mark-from s i j r (omega arith) (y .past) }
 
--- the part of s from i on, and one byte more
-slice-snoc : (s : List ℕ) (i j : ℕ) → i ≤ j → j < length s → slice i j s ++ (getD s j 0 ∷ []) ≡ slice i (j + 1) s
-slice-snoc s i j h l = sym (rw (add-one, take-suc s j 0) (drop-append-le i (take j s) (getD s j 0 ∷ []) (rw (length-take-le j s (omega arith)) h)))
-
 name-run : (s : List ℕ) (k : List (List ℕ)) (i j : ℕ) → i ≤ j → at (tag name k (slice i j s)) s j ≡ at (tag name k (slice i (spanAt isName (drop j s) j) s)) s (spanAt isName (drop j s) j)
 name-run s k i = downward s (λ j. i ≤ j → at (tag name k (slice i j s)) s j ≡ at (tag name k (slice i (spanAt isName (drop j s) j) s)) s (spanAt isName (drop j s) j))
     (λ j h l. rw (span-end isName s j h))
     (λ j h r l. by-cases (isName (getD s j 0))
-    (λ t. rw (span-more isName s j h t) (at-step (tag name k (slice i j s)) s j h (rw t (ap (λ (n : List ℕ). live (tag name k n)) (slice-snoc s i j l h))) ∙ r (omega arith)))
+    (λ t. rw (span-more isName s j h t) (at-step (tag name k (slice i j s)) s j h (rw t (ap (λ (n : List ℕ). live (tag name k n)) (sym (slice-snoc s i j l h)))) ∙ r (omega arith)))
     (λ t. rw (span-here isName s j h t)))
 
 -- the name of a start tag
 pub name-reads : (s : List ℕ) (k : List (List ℕ)) (i e : ℕ) → i < length s → e ≡ spanAt isName (drop (i + 1) s) (i + 1) → at (tag name k (getD s i 0 ∷ [])) s (i + 1) ≡ at (tagged valued (k, slice i e s)) s e
 name-reads s k i e h q =
-    ap (λ (n : List ℕ). at (tag name k n) s (i + 1)) (rw (slice-empty i s) at (slice-snoc s i i (omega arith) h))
+    ap (λ (n : List ℕ). at (tag name k n) s (i + 1)) (rw (slice-empty i s) at (sym (slice-snoc s i i (omega arith) h)))
     ∙ (rw q (name-run s k i (i + 1) (omega arith)))
     ∙ at-same (tag name k (slice i e s)) (tagged valued (k, slice i e s)) s e (λ l. rw (stop-of isName s (i + 1) e q l)) refl
 
@@ -95,9 +91,3 @@ mark-past s i r y g = rw g at (y .past)
 -- a child
 pub child-run : (s : List ℕ) (x : Around) (k left : ℕ) (r : Step) → k < length s → isStart (getD s k 0) ≡ true → (left ≡ 0 → ⊥) → length (x .0) + left ≡ 7 → ReadsElement s k (left - 1) r → at (inLt x) s k ≡ goes (inText x) s r
 child-run s x k left r h t ne e y = lt-child s x k h (omega arith) t ∙ y .run (x .1 ∷ x .0) (omega arith)
-
--- the part that code takes by `[i..e]`
-pub part-is : (s : List ℕ) (i e : ℕ) → i ≤ e → e ≤ length s → take (e - i) (drop i s) ≡ slice i e s
-part-is s i e h l =
-    let q : i + (e - i) ≡ e = omega arith in
-    sym (ap (drop i) (take-add i (e - i) s) ∙ drop-at (take i s) (take (e - i) (drop i s)) i (length-take-le i s (omega arith))) ∙ ap (λ (n : ℕ). slice i n s) q

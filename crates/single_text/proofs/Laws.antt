@@ -13,7 +13,7 @@ use Rattle.walk_rules.specs.declared.Body.{Body}
 use Rattle.walk_rules.specs.Steps.{itemAt, contentAt, walkItems, texting, innerStart, textOf}
 use Rattle.walk_rules.proofs.Bounds.{item-from}
 use Rattle.walk_rules.proofs.Turns.{walk-text, walk-close, walk-over}
-use Rattle.walk_laws.proofs.Slices.{slice-part, slice-none}
+use Rattle.shape_rules.proofs.Slices.{slice-part, slice-none}
 use Rattle.single_text.specs.declared.Single.{Single}
 use Rattle.single_text.specs.Steps.{isClose, runText, itemText, bodyText, singleText}
 

@@ -1,6 +1,5 @@
 -- `Laws` says what the answers are on a file of good shape; Runs, Items, Tags, Walks and Files are its parts.
--- Slices, Buffers, Strays and Trims are laws of texts, for the proofs of the crates above.
-pub mod Slices
+-- Buffers, Strays and Trims are laws of texts, for the proofs of the crates above.
 pub mod Buffers
 pub mod Strays
 pub mod Trims

@@ -14,7 +14,7 @@ use Rattle.walk_rules.specs.Steps.{past, ahead, closing, remarkEnd}
 use Rattle.walk_rules.proofs.Places.{here, ahead-in}
 use Rattle.walk_rules.proofs.Answers.{closing-first, closing-second, closing-third}
 use Rattle.walk_rules.proofs.Bounds.{end-here, end-more}
-use Rattle.walk_laws.proofs.Slices.{slice-take}
+use Rattle.shape_rules.proofs.Slices.{slice-take}
 
 -- a byte of a kind is none that is not of the kind
 pub apart : (p : ℕ → Bool) (b c : ℕ) → p b ≡ true → p c ≡ false → b ≡ c → ⊥

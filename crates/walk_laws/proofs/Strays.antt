@@ -13,7 +13,7 @@ use Rattle.walk_rules.specs.declared.Item.{Item}
 use Rattle.walk_rules.specs.Steps.{past, itemAt, contentAt, walkItems, texting, innerStart, textOf, stray, Laid}
 use Rattle.walk_rules.proofs.Bounds.{item-from}
 use Rattle.walk_rules.proofs.Turns.{Turn, start, on-text}
-use Rattle.walk_laws.proofs.Slices.{slice-none, slice-one, slice-part}
+use Rattle.shape_rules.proofs.Slices.{slice-none, slice-one, slice-part}
 use Rattle.walk_laws.proofs.Buffers.{laid-none, laid-more}
 
 pub stray-pass : (b : ℕ) (s : List ℕ) → isBlank b ≡ true → stray (b ∷ s) ≡ stray s

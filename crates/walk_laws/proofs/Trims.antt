@@ -13,7 +13,7 @@ use Rattle.ascii.proofs.Spans.{drop-one, downward, span-more, span-here, span-e
 use Rattle.walk_rules.specs.declared.Part.{Part}
 use Rattle.walk_rules.specs.Text.{clipped, cropped, trimmed}
 use Rattle.walk_rules.specs.Steps.{past, stray, trimAt}
-use Rattle.walk_laws.proofs.Slices.{slice-take, slice-none, slice-snoc, slice-rest}
+use Rattle.shape_rules.proofs.Slices.{slice-take, slice-none, slice-snoc, slice-rest}
 use Rattle.walk_laws.proofs.Strays.{stray-pass, stray-stop}
 
 clip-pass : (b : ℕ) (s : List ℕ) → isBlank b ≡ true → clipped (b ∷ s) ≡ clipped s

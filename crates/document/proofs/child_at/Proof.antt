@@ -5,7 +5,7 @@ use Rattle.document.proofs.child_at.Tie as tie
 use mathlib.Core.Path.{ap, _∙_}
 use native.Mathlib.Omega.{arith}
 use Rattle.walk_rules.proofs.Bounds.{name-bounds}
-use Rattle.walk_laws.proofs.Slices.{slice-part}
+use Rattle.shape_rules.proofs.Slices.{slice-part}
 use Rattle.schema.specs.Steps.{kindUnder}
 use Rattle.document_rules.specs.Steps.{childAt}
 
