@@ -9,7 +9,7 @@ use lib.ListN.{length, drop, getD, drop-of-length-le}
 use lib.Dec.{leb, ltb, eqb}
 use borrow.Author.Tests.{eqb-true, eqb-false}
 use Rattle.code.specs.Code.{limit, riseOp, rise, height}
-use Rattle.code.specs.Steps.{levelOf}
+use Rattle.code.specs.LevelCode.{levelOf}
 use Rattle.code.specs.declared.Level.{Level}
 use Rattle.code.specs.declared.Level.the-variants.{To, Fault}
 use Rattle.code.proofs.Words.{word-at, op-push, op-both, op-either, op-invert, op-none}
@@ -44,7 +44,8 @@ level-fault none e = refl
 level-fault (some j) e = absurd (let z : _≡_ {A = ℕ} 0 1 = cc in omega arith)
 
 module _ (t : ℕ) (c : List ℕ) (i h : ℕ) where
-  pub height-on : (r : Level) (k : ℕ) → i < length c → r ≡ levelOf (rise limit t (getD c i 0) h) → r ≡ To k → height limit t (drop i c) h ≡ height limit t (drop (i + 1) c) k
+  pub height-on : (r : Level) (k : ℕ) → i < length c → r ≡ levelOf (rise limit t (getD c i 0) h) → r ≡ To k
+      → height limit t (drop i c) h ≡ height limit t (drop (i + 1) c) k
   unfolding height
   height-on r k g e q = rw (word-at c i g, level-to (rise limit t (getD c i 0) h) k (sym e ∙ q))
 

@@ -38,46 +38,46 @@ and-then none f = none
 and-then (some x) f = f x
 
 -- the two top values of a stack, top first, made one: the left operand was pushed first
-abbrev pub joined : (Bool → Bool → Bool) → List Bool → Option (List Bool)
-joined f [] = none
-joined f (b ∷ []) = none
-joined f (b ∷ (a ∷ st)) = some (f a b ∷ st)
+abbrev pub topTwo : (Bool → Bool → Bool) → List Bool → Option (List Bool)
+topTwo f [] = none
+topTwo f (b ∷ []) = none
+topTwo f (b ∷ (a ∷ st)) = some (f a b ∷ st)
 
 -- An instruction on a stack of at most `room` values, where v has the triggers' states.
 -- There is no answer where it would pop from an empty stack, or push with no room.
-unfoldable pub step : ℕ → (ℕ → Bool) → Op → List Bool → Option (List Bool)
-step room v (push i) st = cond (ltb (length st) room) (some (v i ∷ st)) none
-step room v both st = joined _&&_ st
-step room v either st = joined _||_ st
-step room v invert [] = none
-step room v invert (a ∷ st) = some (not a ∷ st)
+unfoldable pub stepOp : ℕ → (ℕ → Bool) → Op → List Bool → Option (List Bool)
+stepOp room v (push i) st = cond (ltb (length st) room) (some (v i ∷ st)) none
+stepOp room v both st = topTwo _&&_ st
+stepOp room v either st = topTwo _||_ st
+stepOp room v invert [] = none
+stepOp room v invert (a ∷ st) = some (not a ∷ st)
 
-unfoldable pub run : ℕ → (ℕ → Bool) → List Op → List Bool → Option (List Bool)
-run room v [] st = some st
-run room v (o ∷ c) st = and-then (step room v o st) (run room v c)
+unfoldable pub runOps : ℕ → (ℕ → Bool) → List Op → List Bool → Option (List Bool)
+runOps room v [] st = some st
+runOps room v (o ∷ c) st = and-then (stepOp room v o st) (runOps room v c)
 
 -- the same on words: a word that is no instruction has no answer either
 unfoldable pub stepWord : ℕ → (ℕ → Bool) → ℕ → List Bool → Option (List Bool)
-stepWord room v w st = and-then (opOf w) (λ o. step room v o st)
+stepWord room v w st = and-then (opOf w) (λ o. stepOp room v o st)
 
 unfoldable pub runWords : ℕ → (ℕ → Bool) → List ℕ → List Bool → Option (List Bool)
 runWords room v [] st = some st
 runWords room v (w ∷ c) st = and-then (stepWord room v w st) (runWords room v c)
 
 -- what code gives on the triggers' states: the one value that is left
-abbrev pub valueOf : Option (List Bool) → Value
-valueOf none = Fault
-valueOf (some []) = Fault
-valueOf (some (b ∷ [])) = Is b
-valueOf (some (b ∷ (a ∷ st))) = Fault
+abbrev pub onlyValue : Option (List Bool) → Value
+onlyValue none = Fault
+onlyValue (some []) = Fault
+onlyValue (some (b ∷ [])) = Is b
+onlyValue (some (b ∷ (a ∷ st))) = Fault
 
 unfoldable pub valueOn : List Bool → List ℕ → Value
-valueOn states c = valueOf (runWords limit (λ i. getD states i false) c [])
+valueOn states c = onlyValue (runWords limit (λ i. getD states i false) c [])
 
 -- The loader's rule in the paper's words. "Each pushed trigger below the plan's number of triggers"
-unfoldable pub Known : ℕ → List ℕ → Type 0
-Known triggers [] = Unit {0}
-Known triggers (w ∷ c) = (w < 32 → w < triggers) × Known triggers c
+unfoldable pub KnownTriggers : ℕ → List ℕ → Type 0
+KnownTriggers triggers [] = Unit {0}
+KnownTriggers triggers (w ∷ c) = (w < 32 → w < triggers) × KnownTriggers triggers c
 
 -- "The code never pops from an empty stack, holds at most 24, and leaves one value": every front part of it has a run.
 pub record Runs (v : ℕ → Bool) (c : List ℕ) : Type 0 where

@@ -1,3 +1,4 @@
--- What the contracts cite. `Code` is what a reader must believe; `Steps` serves the functions' contracts alone.
+-- `Code` is what a reader must believe; LevelCode and RunCode serve the contracts of inner functions.
 pub mod Code
-pub mod Steps
+pub mod LevelCode
+pub mod RunCode

@@ -1,10 +1,13 @@
-// Postfix code of expressions: what it gives by the rules, and what the loader asks of it.
-// It promises: `code_ok` answers the loader's rule on code, for any words; code that is ok never faults, whatever the states (the theorem
-// `sound-code` of code_laws). How code is run is the crate `evaluating`.
-// It may not touch what it is lent, and knows nothing of plans, events and files.
+// Postfix code of expressions: its rule, its run, its laws.
+//
+// The root answers what the loader asks of code; run: what code gives on the triggers' states.
+// Promises: both answer as specs/Code.antt says, for any words; code that is ok never faults, whatever the states (`sound-code`, proofs/Sound.antt).
+// May not touch: what it is lent. It knows nothing of plans, events and files.
 ghost use mathlib.Core.Path.{_≡_};
 ghost use Rattle.code.specs.Code.{limit, rise as riseTo, soundCode};
-ghost use Rattle.code.specs.Steps.{levelOf};
+ghost use Rattle.code.specs.LevelCode.{levelOf};
+
+pub mod run;
 
 // How many values a stack holds at most.
 pub const LIMIT: usize = 24;

@@ -14,6 +14,7 @@ ghost use mathlib.Core.Path.{_≡_};
 ghost use lib.ListN.{length};
 ghost use Rattle.io.specs.Counts.{Counts};
 use converter::Converted;
+use text::texts;
 
 const STDIN: i32 = 0;
 
@@ -67,7 +68,7 @@ fn find_text(s: &[u8], text: &[u8]) -> usize
     let mut i = 0;
     while i < s.len() {
         let e = i + least(text.len(), s.len() - i);
-        if ascii::same_text(&s[i..e], text) {
+        if texts::same_text(&s[i..e], text) {
             return i;
         }
         i += 1;

@@ -1,4 +1,5 @@
--- The statements of a document against their drafts: what `composed` gives, and that the plan by value has the words of the document's plan.
+-- The statements of a document against their drafts: what `composed` gives, and that the plan by value has the words of the document's
+-- plan.
 use Prim.Native.Nat.{ℕ, suc, _+_, _≤_, _<_}
 use native.Mathlib.Omega.{arith}
 use native.Mathlib.Numerals.{add-one}
@@ -8,34 +9,35 @@ use mathlib.Core.List.{List, [], _∷_, _++_, map, map-map, append-nil, append-a
 use lib.ListN.{length, take, set, length-set, length-map}
 use lib.Seq.{take-suc-set}
 use borrow.Author.Tests.{lt-ltb}
-use Rattle.shape_rules.specs.Shape.{Node}
-use Rattle.records.specs.Records.{newest, flag, Statement, triggerWords, filterWords, actionWord, statementWords}
+use Rattle.shape.specs.Shape.{Node}
+use Rattle.records.specs.Records.{newest, flag, PlanStatement, triggerWords, filterWords, actionWord, statementWords}
 use Rattle.records.specs.declared.Trigger.{Trigger}
 use Rattle.records.specs.declared.Filter.{Filter}
 use Rattle.records.specs.declared.Action.{Action}
-use Rattle.loader.specs.Plan.{row, wordsOf}
+use Rattle.loader.specs.Plan.{wordsOf}
 use Rattle.grammar.specs.declared.Verdict.{Verdict}
 use Rattle.grammar.specs.declared.Verdict.the-variants.{Good, Broken, Unknown}
 use Rattle.grammar.specs.declared.Compiled.{Compiled}
-use Rattle.grammar.specs.Outcome.{refusal}
-use Rattle.grammar.specs.Steps.{compiled}
-use Rattle.element.specs.Element.{Known, Fault, textOf}
-use Rattle.element.specs.Steps.{shortText}
-use Rattle.reading.specs.Reading.{is, busOf, actionOf}
-use Rattle.document_rules.specs.Document.{gathered, known}
+use Rattle.grammar.specs.Outcome.{verdictRefusal}
+use Rattle.grammar.specs.GrammarCode.{compiled}
+use Rattle.file_rules.specs.Element.{Known, Fault, textOf}
+use Rattle.element.specs.ElementCode.{shortText}
+use Rattle.file_rules.specs.Reading.{is, busOf, actionOf}
+use Rattle.file_rules.specs.Document.{knownElements}
 use Rattle.writer.specs.declared.Line.{Line}
 use Rattle.writer.specs.declared.Lines.{Lines}
-use Rattle.writer.specs.Sheet.{lineWords, sheetWords}
-use Rattle.telling.specs.declared.Names.{Names}
-use Rattle.telling.specs.declared.Draft.{Draft}
-use Rattle.telling.specs.declared.Told.{Told}
-use Rattle.tables.specs.Tables.{kept, isIn, within, expressionsOf, lineOf, tablesOf}
-use Rattle.tables.specs.Steps.{namesAt}
-use Rattle.table_laws.proofs.Wanted.{Drafted, Each, Reads}
-use Rattle.composing.specs.declared.Composed.{Composed}
-use Rattle.converter.specs.Converter.{statementOf, planOf, wordsFor, faultOf, expressionFaults}
-use Rattle.composing.specs.Steps.{compiledAt, noLines, lineFrom, pushLine, composedBy, composedFrom, composed}
-use Rattle.converter.specs.Steps.{sheetOf}
+use Rattle.writer.specs.SheetCode.{lineWords, sheetWords}
+use Rattle.tables.specs.declared.rows.Names.{Names}
+use Rattle.tables.specs.declared.rows.Draft.{Draft}
+use Rattle.tables.specs.declared.rows.Told.{Told}
+use Rattle.file_rules.specs.Tables.{kept, isIn, within, expressionsOf, lineOf, tablesOf}
+use Rattle.tables.specs.TablesCode.{namesAt}
+use Rattle.tables.proofs.Wanted.{Drafted, Each, Reads}
+use Rattle.converter.specs.declared.statements.Composed.{Composed}
+use Rattle.converter.specs.Converter.{statementFor, planFor, wordsFor, faultOf, expressionFaults}
+use Rattle.converter.specs.StatementsCode.{compiledAt, noLines, lineFrom, pushLine, composedBy, composedFrom, composed}
+use Rattle.converter.specs.ConverterCode.{sheetOf}
+use Rattle.lists.specs.Lists.{gathered}
 
 words-same : (p q : ℕ) (a : List ℕ) (b : List Action) (w v : List ℕ) → p ≡ q → a ≡ map actionWord b → w ≡ v
     → p ∷ length a ∷ length w ∷ (a ++ w) ≡ q ∷ length b ∷ length v ∷ (map actionWord b ++ v)
@@ -58,7 +60,8 @@ abbrev pub Composes : List Fault → Composed → Lines → Type 0
 Composes [] r m = r ≡ record { number = 0; place = 0; lines = m }
 Composes (a ∷ l) r m = (r .number ≡ a .number) × (r .place ≡ a .place) × (1 ≤ a .number)
 
-compose-one : (v : Verdict) (p : ℕ) (fs : List Fault) (r : Composed) (m : Lines) → Composes fs r m → Composes (faultOf (refusal v) p ++ fs) (composedBy v p r) m
+compose-one : (v : Verdict) (p : ℕ) (fs : List Fault) (r : Composed) (m : Lines) → Composes fs r m
+    → Composes (faultOf (verdictRefusal v) p ++ fs) (composedBy v p r) m
 compose-one Good p fs r m h = h
 compose-one Broken p fs r m h = (refl, refl, omega arith)
 compose-one Unknown p fs r m h = (refl, refl, omega arith)
@@ -72,7 +75,8 @@ module _ (f : List ℕ) (n : Names) (names : List (List ℕ)) (same-names : name
   pushed [] l = l
   pushed (d ∷ ds) l = pushed ds (pushLine l (line d))
 
-  pushed-all : (ds : List Draft) (l : Lines) → length (l .rows) ≡ 16 → l .count + length ds ≤ 16 → take (pushed ds l .count) (pushed ds l .rows) ≡ take (l .count) (l .rows) ++ map line ds
+  pushed-all : (ds : List Draft) (l : Lines) → length (l .rows) ≡ 16 → l .count + length ds ≤ 16
+      → take (pushed ds l .count) (pushed ds l .rows) ≡ take (l .count) (l .rows) ++ map line ds
   unfolding pushed
   pushed-all [] l r h = sym (append-nil (take (l .count) (l .rows)))
   pushed-all (d ∷ ds) l r h =
@@ -93,76 +97,93 @@ module _ (f : List ℕ) (n : Names) (names : List (List ℕ)) (same-names : name
     unfolding lineOf gathered
     text-of = ap (gathered textOf) (r .only) ∙ append-nil (textOf (r .expression))
 
-    line-words : lineWords (line d) ≡ statementWords (statementOf (compiled names) (lineOf k))
-    unfolding lineWords statementOf lineOf
+    line-words : lineWords (line d) ≡ statementWords (statementFor (compiled names) (lineOf k))
+    unfolding lineWords statementFor lineOf
     line-words =
         let e : compiledAt f n (d .text) ≡ compiled names (lineOf k .text) = code-at ∙ ap (compiled names) (sym text-of) in
         words-same (d .post) (lineOf k .post) (take (d .actions .count) (d .actions .words)) (lineOf k .actions)
-        (take (compiledAt f n (d .text) .count) (compiledAt f n (d .text) .words)) (take (compiled names (lineOf k .text) .count) (compiled names (lineOf k .text) .words))
+        (take (compiledAt f n (d .text) .count) (compiledAt f n (d .text) .words))
+        (take (compiled names (lineOf k .text) .count) (compiled names (lineOf k .text) .words))
         (r .post) (r .actions ∙ sym (map-map actionWord actionOf (kept (isIn "ACTIONS") (within k))))
         (ap (λ (y : Compiled). take (y .count) (y .words)) e)
 
     abbrev faultAt : Known → List Fault
-    faultAt e = faultOf (refusal (compiled names (textOf e) .verdict)) (e .place)
+    faultAt e = faultOf (verdictRefusal (compiled names (textOf e) .verdict)) (e .place)
 
-    fault-of : gathered faultAt (expressionsOf k) ≡ faultOf (refusal (compiledAt f n (d .text) .verdict)) (d .text)
+    fault-of : gathered faultAt (expressionsOf k) ≡ faultOf (verdictRefusal (compiledAt f n (d .text) .verdict)) (d .text)
     unfolding gathered
     fault-of =
         ap (gathered faultAt) (r .only)
         ∙ (append-nil (faultAt (r .expression))
-        ∙ (ap (λ (y : Compiled). faultOf (refusal (y .verdict)) (r .expression .place)) (sym code-at) ∙ ap (faultOf (refusal (compiledAt f n (d .text) .verdict))) (sym (r .place))))
+        ∙
+        (ap (λ (y : Compiled). faultOf (verdictRefusal (y .verdict)) (r .expression .place)) (sym code-at)
+        ∙ ap (faultOf (verdictRefusal (compiledAt f n (d .text) .verdict))) (sym (r .place))))
 
   -- ---- all statements
-  lines-words : (ds : List Draft) (ks : List Known) → Each (Drafted f) ds ks → row lineWords (map line ds) ≡ row statementWords (map (statementOf (compiled names)) (map lineOf ks))
-  unfolding row
+  lines-words : (ds : List Draft) (ks : List Known) → Each (Drafted f) ds ks
+      → gathered lineWords (map line ds) ≡ gathered statementWords (map (statementFor (compiled names)) (map lineOf ks))
+  unfolding gathered
   lines-words ds ks Each.over = refl
   lines-words ds ks (Each.next d k us vs r e) =
-      ap (λ (w : List ℕ). w ++ row lineWords (map line us)) (line-words d k r)
-      ∙ ap (λ (w : List ℕ). statementWords (statementOf (compiled names) (lineOf k)) ++ w) (lines-words us vs e)
+      ap (λ (w : List ℕ). w ++ gathered lineWords (map line us)) (line-words d k r)
+      ∙ ap (λ (w : List ℕ). statementWords (statementFor (compiled names) (lineOf k)) ++ w) (lines-words us vs e)
 
   abbrev faultsOf : List Known → List Fault
-  faultsOf ks = gathered (λ k. gathered (λ e. faultOf (refusal (compiled names (textOf e) .verdict)) (e .place)) (expressionsOf k)) ks
+  faultsOf ks =
+      gathered (λ k. gathered (λ e. faultOf (verdictRefusal (compiled names (textOf e) .verdict)) (e .place)) (expressionsOf k)) ks
 
-  composes : (ds : List Draft) (ks : List Known) → Each (Drafted f) ds ks → (l : Lines) → Composes (faultsOf ks) (composedFrom f n ds l) (pushed ds l)
+  composes : (ds : List Draft) (ks : List Known) → Each (Drafted f) ds ks → (l : Lines)
+      → Composes (faultsOf ks) (composedFrom f n ds l) (pushed ds l)
   unfolding gathered composedFrom pushed
   composes ds ks Each.over l = refl
   composes ds ks (Each.next d k us vs r e) l =
       subst (λ (z : List Fault). Composes (z ++ faultsOf vs) (composedFrom f n (d ∷ us) l) (pushed (d ∷ us) l)) (sym (fault-of d k r))
-      (compose-one (compiledAt f n (d .text) .verdict) (d .text) (faultsOf vs) (composedFrom f n us (pushLine l (line d))) (pushed us (pushLine l (line d))) (composes us vs e (pushLine l (line d))))
+      (compose-one (compiledAt f n (d .text) .verdict) (d .text) (faultsOf vs) (composedFrom f n us (pushLine l (line d)))
+      (pushed us (pushLine l (line d))) (composes us vs e (pushLine l (line d))))
 
 -- ---- the plan
-plan-same : (n m : ℕ) (a b : Bool) (ts us : List Trigger) (fs gs : List Filter) (ls : List Line) (ss : List Statement)
-    → n ≡ m → a ≡ b → ts ≡ us → fs ≡ gs → length ls ≡ length ss → row lineWords ls ≡ row statementWords ss
-    → newest ∷ n ∷ flag a ∷ length ts ∷ length fs ∷ length ls ∷ (row triggerWords ts ++ (row filterWords fs ++ row lineWords ls))
-    ≡ newest ∷ m ∷ flag b ∷ length us ∷ length gs ∷ length ss ∷ (row triggerWords us ++ (row filterWords gs ++ row statementWords ss))
+plan-same : (n m : ℕ) (a b : Bool) (ts us : List Trigger) (fs gs : List Filter) (ls : List Line) (ss : List PlanStatement)
+    → n ≡ m → a ≡ b → ts ≡ us → fs ≡ gs → length ls ≡ length ss → gathered lineWords ls ≡ gathered statementWords ss
+    → newest ∷ n ∷ flag a ∷ length ts ∷ length fs ∷ length ls
+    ∷ (gathered triggerWords ts ++ (gathered filterWords fs ++ gathered lineWords ls))
+    ≡ newest ∷ m ∷ flag b ∷ length us ∷ length gs ∷ length ss
+    ∷ (gathered triggerWords us ++ (gathered filterWords gs ++ gathered statementWords ss))
 plan-same n m a b ts us fs gs ls ss p q r s t u = rw (p, q, r, s, t, u)
 
 module _ (f : List ℕ) (x : Node) (t : Told) (reads : Reads f x t) where
   abbrev pub codeOf : List ℕ → Compiled
-  codeOf = compiled (tablesOf (known x) .names)
+  codeOf = compiled (tablesOf (knownElements x) .names)
 
   abbrev drafts : List Draft
   drafts = take (t .drafts .count) (t .drafts .rows)
 
   abbrev pub allLines : Lines
-  allLines = pushed f (t .names) (tablesOf (known x) .names) (reads .names) drafts noLines
+  allLines = pushed f (t .names) (tablesOf (knownElements x) .names) (reads .names) drafts noLines
 
-  pub composed-is : Composes (expressionFaults codeOf (known x)) (composed f (t .names) (t .drafts)) allLines
+  pub composed-is : Composes (expressionFaults codeOf (knownElements x)) (composed f (t .names) (t .drafts)) allLines
   unfolding expressionFaults composed
-  composed-is = composes f (t .names) (tablesOf (known x) .names) (reads .names) drafts (kept (is "STATEMENT") (known x)) (reads .drafts) noLines
+  composed-is =
+      composes f (t .names) (tablesOf (knownElements x) .names) (reads .names) drafts (kept (is "STATEMENT") (knownElements x))
+      (reads .drafts) noLines
 
   pub sheet-is : sheetWords (sheetOf t allLines) ≡ wordsFor codeOf x
-  unfolding sheetWords sheetOf wordsOf planOf tablesOf
+  unfolding sheetWords sheetOf wordsOf planFor tablesOf
   sheet-is =
-      let ks = kept (is "STATEMENT") (known x) in
+      let ks = kept (is "STATEMENT") (knownElements x) in
       let h = each-long (Drafted f) drafts ks (reads .drafts) in
-      let p = pushed-all f (t .names) (tablesOf (known x) .names) (reads .names) drafts noLines refl (omega (arith, h, reads .few-statements)) in
-      let ls = map (line f (t .names) (tablesOf (known x) .names) (reads .names)) drafts in
-      let ss = map (statementOf codeOf) (map lineOf ks) in
-      let k : length ls ≡ length ss = length-map drafts _ ∙ (h ∙ sym (length-map (map lineOf ks) (statementOf codeOf) ∙ length-map ks lineOf)) in
-      let w = lines-words f (t .names) (tablesOf (known x) .names) (reads .names) drafts ks (reads .drafts) in
-      plan-same (t .head .channels) (length (map busOf (kept (is "PARAMETERS") (known x)))) (t .head .all) (tablesOf (known x) .logAll)
-      (take (t .triggers .count) (t .triggers .rows)) (tablesOf (known x) .triggers) (take (t .filters .count) (t .filters .rows)) (map (λ y. y .0) (tablesOf (known x) .filters))
+      let p =
+      pushed-all f (t .names) (tablesOf (knownElements x) .names) (reads .names) drafts noLines refl
+      (omega (arith, h, reads .few-statements)) in
+      let ls = map (line f (t .names) (tablesOf (knownElements x) .names) (reads .names)) drafts in
+      let ss = map (statementFor codeOf) (map lineOf ks) in
+      let k : length ls ≡ length ss = length-map drafts _
+      ∙ (h ∙ sym (length-map (map lineOf ks) (statementFor codeOf) ∙ length-map ks lineOf)) in
+      let w = lines-words f (t .names) (tablesOf (knownElements x) .names) (reads .names) drafts ks (reads .drafts) in
+      plan-same (t .head .channels) (length (map busOf (kept (is "PARAMETERS") (knownElements x)))) (t .head .all)
+      (tablesOf (knownElements x) .logAll)
+      (take (t .triggers .count) (t .triggers .rows)) (tablesOf (knownElements x) .triggers) (take (t .filters .count) (t .filters .rows))
+      (map (λ y. y .0) (tablesOf (knownElements x) .filters))
       (take (allLines .count) (allLines .rows)) ss
-      (reads .channels ∙ sym (length-map (kept (is "PARAMETERS") (known x)) busOf)) (reads .log-all) (reads .triggers) (reads .filters)
-      (ap length p ∙ k) (ap (row lineWords) p ∙ w)
+      (reads .channels ∙ sym (length-map (kept (is "PARAMETERS") (knownElements x)) busOf)) (reads .log-all) (reads .triggers)
+      (reads .filters)
+      (ap length p ∙ k) (ap (gathered lineWords) p ∙ w)

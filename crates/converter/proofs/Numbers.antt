@@ -6,16 +6,16 @@ use mathlib.Core.Bool.{Bool, true, false}
 use mathlib.Core.List.{List, [], _∷_, _++_}
 use lib.Dec.{leb, eqb}
 use lib.ListN.{length}
-use Rattle.ascii.specs.Texts.{same}
-use Rattle.ascii.proofs.Cases.{le-or-lt}
-use Rattle.shape_rules.specs.Shape.{Node}
-use Rattle.schema.specs.Schema.{any}
-use Rattle.element.specs.Element.{Known, Fault, _at_if_, ownFaults}
-use Rattle.element.specs.Steps.{firstNumber}
-use Rattle.element_laws.proofs.Laws.{no-fault}
-use Rattle.reading.specs.Reading.{is}
-use Rattle.document_rules.specs.Document.{gathered, known, placeOf, lacks, elementFaults}
-use Rattle.tables.specs.Tables.{kept, isIn, nameOf, usedNames, gap, channelNamed, channelsIn, tableFaults}
+use Rattle.text.specs.Texts.{same}
+use Rattle.lists.proofs.Cases.{le-or-lt}
+use Rattle.shape.specs.Shape.{Node}
+use Rattle.file_rules.specs.Element.{Known, Fault, _at_if_, ownFaults}
+use Rattle.element.specs.ElementCode.{firstNumber}
+use Rattle.element.proofs.Laws.{no-fault}
+use Rattle.file_rules.specs.Reading.{is}
+use Rattle.file_rules.specs.Document.{knownElements, placeOf, lacks, elementFaults}
+use Rattle.file_rules.specs.Tables.{kept, isIn, nameOf, usedNames, gap, channelNamed, channelsIn, tableFaults}
+use Rattle.lists.specs.Lists.{any, gathered}
 
 abbrev Positive : List Fault → Type 0
 Positive [] = Unit {0}
@@ -47,15 +47,19 @@ own-positive k = go (ownFaults k) refl
 element-positive : (x : Node) → Positive (elementFaults x)
 unfolding elementFaults
 element-positive x =
-    positive-both (3 at placeOf x if eqb (length (known x)) 0) (gathered ownFaults (known x) ++ 8 at placeOf x if any lacks (known x)) (positive-if 3 (placeOf x) (eqb (length (known x)) 0) (omega arith))
-    (positive-both (gathered ownFaults (known x)) (8 at placeOf x if any lacks (known x)) (positive-all ownFaults own-positive (known x)) (positive-if 8 (placeOf x) (any lacks (known x)) (omega arith)))
+    positive-both (3 at placeOf x if eqb (length (knownElements x)) 0)
+    (gathered ownFaults (knownElements x) ++ 8 at placeOf x if any lacks (knownElements x))
+    (positive-if 3 (placeOf x) (eqb (length (knownElements x)) 0) (omega arith))
+    (positive-both (gathered ownFaults (knownElements x)) (8 at placeOf x if any lacks (knownElements x))
+    (positive-all ownFaults own-positive (knownElements x)) (positive-if 8 (placeOf x) (any lacks (knownElements x)) (omega arith)))
 
 used-positive : (earlier : List (List ℕ)) (ks : List Known) → Positive (usedNames earlier ks)
 unfolding usedNames
 used-positive earlier [] = tt
 used-positive earlier (k ∷ ks) =
     let b = any (same (nameOf k)) earlier in
-    positive-both (9 at k .place if b) (usedNames (earlier ++ (nameOf k ∷ [])) ks) (positive-if 9 (k .place) b (omega arith)) (used-positive (earlier ++ (nameOf k ∷ [])) ks)
+    positive-both (9 at k .place if b) (usedNames (earlier ++ (nameOf k ∷ [])) ks) (positive-if 9 (k .place) b (omega arith))
+    (used-positive (earlier ++ (nameOf k ∷ [])) ks)
 
 table-positive : (ks : List Known) → Positive (tableFaults ks)
 unfolding tableFaults

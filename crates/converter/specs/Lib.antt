@@ -1,3 +1,4 @@
--- `Converter` is what a reader must believe; `Steps` serves the contracts of the inner functions.
+-- `Converter` is what a reader must believe; the others serve the contracts of inner functions.
 pub mod Converter
-pub mod Steps
+pub mod ConverterCode
+pub mod StatementsCode

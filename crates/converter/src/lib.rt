@@ -1,11 +1,15 @@
 // Files to plans.
 //
+// statements: the statements with their code, or refusal 11 or 12. The root puts the plan together and has it written.
 // Promises: `convert` answers every file and every buffer; specs/Converter.antt says which answer, and what the buffer holds then.
 // May not touch: anything after the first refusal. No plan word is written before the last check.
 ghost use mathlib.Core.Path.{_≡_};
 ghost use Rattle.converter.specs.Converter.{Converts};
-ghost use Rattle.converter.specs.Steps.{sheetOf};
-use telling::Told;
+ghost use Rattle.converter.specs.ConverterCode.{sheetOf};
+
+pub mod statements;
+
+use tables::rows::Told;
 use writer::Lines;
 use writer::Sheet;
 use writer::Written;
@@ -44,7 +48,7 @@ pub fn convert(file: &[u8], plan: &mut [u32]) -> Converted
     }
     let names = told.names;
     let drafts = told.drafts;
-    let composed = composing::compose(file, names, drafts);
+    let composed = statements::compose(file, names, drafts);
     if composed.number != 0 {
         return Converted::Refused(composed.number, composed.place);
     }

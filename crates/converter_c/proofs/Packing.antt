@@ -7,7 +7,7 @@ use Rattle.converter.specs.declared.Converted.{Converted}
 use Rattle.converter.specs.declared.Converted.the-variants.{Words, Refused}
 use Rattle.converter.specs.Converter.{Converts}
 use Rattle.converter.proofs.Once.{one-converted}
-use Rattle.places.proofs.Places.{places, fits, words-fit}
+use Rattle.read_back.proofs.Places.{places, fits, words-fit}
 use Rattle.converter_c.specs.Calls.{packed, Converting, converting}
 
 module _ (s d : List ℕ) (a : Converted) (e : List ℕ) (h : Converts s d a e) where
@@ -27,10 +27,12 @@ one-converting s d r r′ e e′ (converting a _ h) (converting b _ g) =
     (ap packed (q .0), q .1)
 
 -- ---- the upper half is 0 or the refusal's number, the lower half the plan's length or the place
-pub words-told : (s d : List ℕ) (n : ℕ) (e : List ℕ) → Converts s d (Words n) e → (packed (Words n) / 4294967296 ≡ 0) × (packed (Words n) % 4294967296 ≡ n)
+pub words-told : (s d : List ℕ) (n : ℕ) (e : List ℕ) → Converts s d (Words n) e
+    → (packed (Words n) / 4294967296 ≡ 0) × (packed (Words n) % 4294967296 ≡ n)
 words-told s d n e h = let g = words-fit s d n e h in (omega (arith, g), omega (arith, g))
 
-pub refused-told : (s d : List ℕ) (n p : ℕ) (e : List ℕ) → Converts s d (Refused n p) e → (packed (Refused n p) / 4294967296 ≡ n) × (packed (Refused n p) % 4294967296 ≡ p)
+pub refused-told : (s d : List ℕ) (n p : ℕ) (e : List ℕ) → Converts s d (Refused n p) e
+    → (packed (Refused n p) / 4294967296 ≡ n) × (packed (Refused n p) % 4294967296 ≡ p)
 refused-told s d n p e h = let g = (fits s d n p e h) .1 in (omega (arith, g), omega (arith, g))
 
 -- ---- so no two answers are packed alike, to whatever files and buffers they were given
@@ -51,5 +53,6 @@ packed-once (Refused n p) (Refused m q) h g e =
     let u : p ≡ q = omega (arith, h .1, g .1, e) in
     ap (λ (k : ℕ). Refused k p) t ∙ ap (Refused m) u
 
-pub one-answer : (s s′ d d′ : List ℕ) (a b : Converted) (e e′ : List ℕ) → Converts s d a e → Converts s′ d′ b e′ → packed a ≡ packed b → a ≡ b
+pub one-answer : (s s′ d d′ : List ℕ) (a b : Converted) (e e′ : List ℕ) → Converts s d a e → Converts s′ d′ b e′ → packed a ≡ packed b
+    → a ≡ b
 one-answer s s′ d d′ a b e e′ h g q = packed-once a b (all-small s d a e h) (all-small s′ d′ b e′ g) q

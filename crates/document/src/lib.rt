@@ -1,28 +1,30 @@
-// The known elements of a document: which there are and where, or its first fault (refusals 1 to 8).
+// All known elements of a file: which there are and where, or the first of its refusals 1 to 8.
 //
-// Promises: `read_index` answers every file, by value and to the last entry, as specs/Document.antt says it.
+// Promises: `read_index` answers every file, by value and to the last entry; proofs/Laws.antt says that this is what
+// crates/file_rules/specs/Document.antt says of its document.
 // May not touch: what the elements say together (names, channels, expressions): that is for the crates above.
 ghost use mathlib.Core.Path.{_≡_};
 ghost use mathlib.Core.Bool.{true, false};
 ghost use Prim.Native.Nat.{ℕ, suc, _≤_};
 ghost use mathlib.Core.List.{List};
 ghost use lib.ListN.{length, getD, set};
-ghost use Rattle.shape_rules.specs.declared.Shape.the-variants.{Whole};
-ghost use Rattle.shape_rules.specs.Shape.{Shaped};
-ghost use Rattle.walk_rules.specs.Steps.{contentAt, skipped};
-ghost use Rattle.element.specs.Steps.{lacksFirst, worded};
-ghost use Rattle.schema.specs.Steps.{isCarried};
-ghost use Rattle.document_rules.specs.Steps.{refusal, enteredFound, refusedFound, noneSeen, oneMore, marked, isOver, lacksSome, closed, childAt, isBarred, looked, faultAt, tagFaultAt, visitBody, visitFrom, indexAt, noneFound, indexed, Indexes, kindNumber, kindOf, entryFrom, entriesFrom, found, Ready, VisitedIs, InsideIs};
-use document_rules::Entry;
-use document_rules::Index;
-use document_rules::Inside;
-use document_rules::Seen;
-use document_rules::Walk;
+ghost use Rattle.shape.specs.declared.Shape.the-variants.{Whole};
+ghost use Rattle.shape.specs.Shape.{Shaped};
+ghost use Rattle.walk.specs.WalkCode.{contentAt, skipped};
+ghost use Rattle.element.specs.ElementCode.{lacksFirst, worded};
+ghost use Rattle.schema.specs.SchemaCode.{isCarried};
+ghost use Rattle.document.specs.DocumentCode.{refusedIndex, enteredFound, refusedFound, noneSeen, oneMore, marked, isOver, lacksSome, closedWalk, childAt, isBarred, looked, faultAt, tagFaultAt, visitBody, visitFrom, indexAt, noneFound, indexed, Indexes, kindNumber, kindOf, entryFrom, entriesFrom, found, Ready, VisitedIs, InsideIs};
+use element::faults;
 use schema::Kind;
 use schema::Times;
-use shape_rules::Shape;
-use walk_rules::Body;
-use walk_rules::Item;
+use schema::names;
+use shape::Shape;
+use text::runs;
+use walk::Body;
+use walk::Item;
+use walk::elements;
+use walk::items;
+use walk::tags;
 
 fn is_carried(kind: Kind) -> bool
     ensures { λ r. ⌜ r ≡ isCarried kind ⌝ }
@@ -45,7 +47,7 @@ fn is_barred(kind: Kind) -> bool
 }
 
 fn refuse(number: u32, place: usize) -> Index
-    ensures { λ r. ⌜ r ≡ refusal number place ⌝ }
+    ensures { λ r. ⌜ r ≡ refusedIndex number place ⌝ }
 {
     let none = Entry {
         kind: Kind::File,
@@ -287,7 +289,7 @@ fn lacks_some(kind: Kind, seen: Seen) -> bool
 
 // At the end tag, behind which the walk goes on.
 fn close(walk: Walk, kind: Kind, seen: Seen, end: usize, stray: bool) -> Inside
-    ensures { λ r. ⌜ ((ms : List ℕ) → found (r .walk) ms ≡ closed (found walk ms) kind seen) × (r .walk .at ≡ end) × (r .stray ≡ stray) ⌝ }
+    ensures { λ r. ⌜ ((ms : List ℕ) → found (r .walk) ms ≡ closedWalk (found walk ms) kind seen) × (r .walk .at ≡ end) × (r .stray ≡ stray) ⌝ }
 {
     let lacks = lacks_some(kind, seen);
     let closed = Walk {
@@ -307,10 +309,10 @@ fn close(walk: Walk, kind: Kind, seen: Seen, end: usize, stray: bool) -> Inside
 fn child_at(file: &[u8], j: usize, parent: Kind) -> Kind
     ensures { λ r. ⌜ r ≡ childAt (now (file .entry)) j parent ⌝ }
 {
-    let name = tag_walk::name_of(file, j);
+    let name = tags::name_of(file, j);
     let from = name.from;
     let to = name.to;
-    naming::kind_under(parent, &file[from..to])
+    names::kind_under(parent, &file[from..to])
 }
 
 // The first of 4, 7 for its kind, 5, 6, 7 for a value; 0 if there is none.
@@ -323,7 +325,7 @@ fn fault_at(file: &[u8], i: usize, kind: Kind, over: bool) -> u32
     if over {
         return 4;
     }
-    judging::own_fault(file, i, kind)
+    faults::own_fault(file, i, kind)
 }
 
 // The same, stray text aside: what a start tag and a text that is read tell.
@@ -336,7 +338,7 @@ fn tag_fault_at(file: &[u8], i: usize, kind: Kind, over: bool) -> u32
     if over {
         return 4;
     }
-    judging::tag_fault(file, i, kind)
+    faults::tag_fault(file, i, kind)
 }
 
 // Has an element of that kind a text of its own?
@@ -366,7 +368,7 @@ fn is_looked_at(walk: Walk, kind: Kind) -> bool
 fn pass(file: &[u8], walk: Walk) -> Walk
     ensures { λ r. ⌜ ((ms : List ℕ) → found r ms ≡ found walk ms) × (r .at ≡ skipped (now (file .entry)) (walk .at)) ⌝ }
 {
-    let end = passing::skip(file, walk.at);
+    let end = elements::skip(file, walk.at);
     move_to(walk, end)
 }
 
@@ -401,7 +403,7 @@ fn visit_inside(file: &[u8], kind: Kind, left: usize, entered: Walk, marks: &mut
     ensures { λ r. ⌜ InsideIs (now (file .entry)) (entered .at) (visitBody (visitFrom (now (file .entry)) left) (now (file .entry)) kind (found entered (now (marks .entry))) (contentAt (now (file .entry)) (entered .at))) r (now (marks .exit)) ⌝ }
 {
     let i = entered.at;
-    match tag_walk::content_at(file, i) {
+    match tags::content_at(file, i) {
         Body::Broken => close(entered, kind, none_seen(), i, false),
         Body::Empty(e) => close(entered, kind, none_seen(), e, false),
         Body::Open(o) => {
@@ -409,7 +411,7 @@ fn visit_inside(file: &[u8], kind: Kind, left: usize, entered: Walk, marks: &mut
             let mut seen = none_seen();
             let mut stray = false;
             while all.at < file.len() {
-                match walk::item_at(file, all.at) {
+                match items::item_at(file, all.at) {
                     Item::Text(k) => {
                         stray = stray | (runs::blanks_end(file, all.at) < k);
                         all.at = k;
@@ -470,7 +472,7 @@ fn index_whole(file: &[u8]) -> Index
     requires { ⌜ Shaped (now file) Whole ⌝ }
     ensures { λ r. ⌜ r ≡ indexed (now (file .entry)) ⌝ }
 {
-    let root = walk::root_at(file);
+    let root = items::root_at(file);
     let kind = child_at(file, root, Kind::File);
     if is_carried(kind) {
         let mut marks = [0; 382];
@@ -489,4 +491,38 @@ pub fn read_index(file: &[u8]) -> Index
         Shape::Broken(p) => refuse(2, p),
         Shape::Whole => index_whole(file),
     }
+}
+
+pub struct Entry {
+    pub kind: Kind,
+    pub place: usize,
+}
+
+// The known elements in file order, or the first fault and its place (then there are no entries).
+pub struct Index {
+    pub number: u32,
+    pub place: usize,
+    pub count: usize,
+    pub entries: [Entry; 382],
+}
+
+// The walk so far: where it stands, the first fault and its place (0 if there is none yet), how many entries are marked, and whether a required element lacks.
+pub struct Walk {
+    pub at: usize,
+    pub number: u32,
+    pub place: usize,
+    pub count: usize,
+    pub lacking: bool,
+}
+
+// The walk behind an element, and whether text that is no blank stands in the element.
+pub struct Inside {
+    pub walk: Walk,
+    pub stray: bool,
+}
+
+// What an element holds so far: how many (counted up to 64), and which of those that it holds once.
+pub struct Seen {
+    pub count: usize,
+    pub names: [bool; 5],
 }

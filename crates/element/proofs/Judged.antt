@@ -5,20 +5,21 @@ use mathlib.Core.List.{List}
 use mathlib.Core.Bool.{true, false}
 use lib.Dec.{ltb}
 use lib.ListN.{getD}
-use Rattle.values.specs.Values.{worth}
+use Rattle.values.specs.Values.{worthOf}
 use Rattle.schema.specs.declared.Asked.{Asked}
 use Rattle.element.specs.declared.Gathered.{Gathered}
-use Rattle.element.specs.Steps.{put, unfit, judged}
+use Rattle.element.specs.ElementCode.{putWorth, unfitted, judgedBy}
 
 module _ (g : Gathered) (q : Asked) (v : List ℕ) where
-  pub judged-fit : ltb (q .slot) 12 ≡ true → getD (g .has) (q .slot) false ≡ false → judged g q v ≡ put g (q .slot) (worth (q .sort) v)
-  unfolding judged
+  pub judged-fit : ltb (q .slot) 12 ≡ true → getD (g .has) (q .slot) false ≡ false
+      → judgedBy g q v ≡ putWorth g (q .slot) (worthOf (q .sort) v)
+  unfolding judgedBy
   judged-fit t h = rw (t, h)
 
-  pub judged-again : ltb (q .slot) 12 ≡ true → getD (g .has) (q .slot) false ≡ true → judged g q v ≡ unfit g
-  unfolding judged
+  pub judged-again : ltb (q .slot) 12 ≡ true → getD (g .has) (q .slot) false ≡ true → judgedBy g q v ≡ unfitted g
+  unfolding judgedBy
   judged-again t h = rw (t, h)
 
-  pub judged-unknown : ltb (q .slot) 12 ≡ false → judged g q v ≡ unfit g
-  unfolding judged
+  pub judged-unknown : ltb (q .slot) 12 ≡ false → judgedBy g q v ≡ unfitted g
+  unfolding judgedBy
   judged-unknown t = rw t

@@ -6,19 +6,19 @@ use mathlib.Core.List.{List}
 use mathlib.Core.Bool.{Bool, true, false}
 use lib.ListN.{length, take, drop}
 use lib.Seq.{slice}
-use Rattle.ascii.specs.Texts.{same}
-use Rattle.ascii.proofs.Cases.{by-cases}
-use Rattle.walk_rules.specs.declared.Part.{Part}
-use Rattle.walk_rules.specs.declared.TagPart.{TagPart}
-use Rattle.walk_rules.specs.Steps as walk
-use Rattle.walk_rules.proofs.Bounds.{PartFrom, part-bounds, part-from, part-over}
-use Rattle.shape_rules.proofs.Slices.{slice-part}
-use Rattle.walk_rules.proofs.Turns.{Turn, start, next, done, over}
+use Rattle.text.specs.Texts.{same}
+use Rattle.lists.proofs.Cases.{by-cases}
+use Rattle.walk.specs.declared.Part.{Part}
+use Rattle.walk.specs.declared.TagPart.{TagPart}
+use Rattle.walk.specs.WalkCode as walk
+use Rattle.walk.proofs.Bounds.{PartFrom, part-bounds, part-from, part-over}
+use Rattle.shape.proofs.Slices.{slice-part}
+use Rattle.walk.proofs.Turns.{Turn, start, next, done, over}
 use Rattle.schema.specs.declared.Kind.{Kind}
 use Rattle.schema.specs.declared.Asked.{Asked}
-use Rattle.schema.specs.Steps.{askedOf}
+use Rattle.schema.specs.SchemaCode.{askedOf}
 use Rattle.element.specs.declared.Gathered.{Gathered}
-use Rattle.element.specs.Steps.{nothing, judged, gatherFrom, gathered, valueFrom, valueAt}
+use Rattle.element.specs.ElementCode.{nothingGathered, judgedBy, gatherFrom, gatheredAt, valueFrom, valueAt}
 
 -- a part that is no attribute
 abbrev pub Last : TagPart → Type 0
@@ -34,7 +34,7 @@ part f a e = take (e - a) (drop a f)
 -- ---- all attributes
 module _ (kind : Kind) (f : List ℕ) (j : ℕ) (g : Gathered) where
   pub gather-next : (n a e c k : ℕ) → TagPart.Attribute a e c k ≡ walk.partAt f j
-      → gatherFrom kind f (suc n) j g ≡ gatherFrom kind f n (k + 1) (judged g (askedOf kind (slice a e f)) (slice c k f))
+      → gatherFrom kind f (suc n) j g ≡ gatherFrom kind f n (k + 1) (judgedBy g (askedOf kind (slice a e f)) (slice c k f))
   unfolding gatherFrom
   gather-next n a e c k r = rw (← r, gatherFrom)
 
@@ -51,30 +51,32 @@ module _ (kind : Kind) (f : List ℕ) (j : ℕ) (g : Gathered) where
   gather-past h (suc n) = gather-last n TagPart.Broken (sym (part-over f j h)) tt
 
 abbrev pub GatherTurn : Kind → List ℕ → ℕ → Gathered → ℕ → Type 0
-GatherTurn kind f i g j = Turn (λ n m. gatherFrom kind f n m g) (length f) j (gathered kind f i)
+GatherTurn kind f i g j = Turn (λ n m. gatherFrom kind f n m g) (length f) j (gatheredAt kind f i)
 
-pub gather-start : (kind : Kind) (f : List ℕ) (i : ℕ) (p : Part) (g : Gathered) → p ≡ walk.nameOf f i → g ≡ nothing → GatherTurn kind f i g (p .to)
-unfolding gathered
+pub gather-start : (kind : Kind) (f : List ℕ) (i : ℕ) (p : Part) (g : Gathered) → p ≡ walk.nameAt f i → g ≡ nothingGathered
+    → GatherTurn kind f i g (p .to)
+unfolding gatheredAt
 gather-start kind f i p g e h =
-    start (λ n m. gatherFrom kind f n m g) (length f) (p .to) (gathered kind f i)
-    (ap (λ (q : Part). gatherFrom kind f (suc (length f)) (q .to) g) e ∙ ap (gatherFrom kind f (suc (length f)) (walk.nameOf f i .to)) h)
+    start (λ n m. gatherFrom kind f n m g) (length f) (p .to) (gatheredAt kind f i)
+    (ap (λ (q : Part). gatherFrom kind f (suc (length f)) (q .to) g) e ∙ ap (gatherFrom kind f (suc (length f)) (walk.nameAt f i .to)) h)
 
 module _ (kind : Kind) (f : List ℕ) (i j : ℕ) (g : Gathered) (t : GatherTurn kind f i g j) where
-  pub gather-again : j < length f → (a e c k : ℕ) → TagPart.Attribute a e c k ≡ walk.partAt f j → (q : Asked) → q ≡ askedOf kind (part f a e)
-      → (g′ : Gathered) → g′ ≡ judged g q (part f c k) → GatherTurn kind f i g′ (k + 1)
+  pub gather-again : j < length f → (a e c k : ℕ) → TagPart.Attribute a e c k ≡ walk.partAt f j → (q : Asked)
+      → q ≡ askedOf kind (part f a e)
+      → (g′ : Gathered) → g′ ≡ judgedBy g q (part f c k) → GatherTurn kind f i g′ (k + 1)
   gather-again h a e c k r q x g′ z =
       let b = part-from f j (TagPart.Attribute a e c k) r in
       let u : part f a e ≡ slice a e f = slice-part f a e (b .1) (omega (arith, b .2, b .3, b .4)) in
       let v : part f c k ≡ slice c k f = slice-part f c k (b .3) (omega (arith, b .4)) in
-      let y : judged g (askedOf kind (slice a e f)) (slice c k f) ≡ g′ = sym (z ∙ rw (x, u, v)) in
-      next (λ n m. gatherFrom kind f n m g) (length f) j (gathered kind f i) (λ n m. gatherFrom kind f n m g′) (k + 1) t h
+      let y : judgedBy g (askedOf kind (slice a e f)) (slice c k f) ≡ g′ = sym (z ∙ rw (x, u, v)) in
+      next (λ n m. gatherFrom kind f n m g) (length f) j (gatheredAt kind f i) (λ n m. gatherFrom kind f n m g′) (k + 1) t h
       (omega (arith, b .0, b .1, b .2, b .3)) (λ n. gather-next kind f j g n a e c k r ∙ ap (gatherFrom kind f n (k + 1)) y)
 
-  pub gather-done : j < length f → (p : TagPart) → p ≡ walk.partAt f j → Last p → g ≡ gathered kind f i
-  gather-done h p r z = done (λ n m. gatherFrom kind f n m g) (length f) j (gathered kind f i) g t h (λ n. gather-last kind f j g n p r z)
+  pub gather-done : j < length f → (p : TagPart) → p ≡ walk.partAt f j → Last p → g ≡ gatheredAt kind f i
+  gather-done h p r z = done (λ n m. gatherFrom kind f n m g) (length f) j (gatheredAt kind f i) g t h (λ n. gather-last kind f j g n p r z)
 
-  pub gather-over : length f ≤ j → g ≡ gathered kind f i
-  gather-over h = over (λ n m. gatherFrom kind f n m g) (length f) j (gathered kind f i) g t (gather-past kind f j g h)
+  pub gather-over : length f ≤ j → g ≡ gatheredAt kind f i
+  gather-over h = over (λ n m. gatherFrom kind f n m g) (length f) j (gatheredAt kind f i) g t (gather-past kind f j g h)
 
 -- ---- one attribute
 module _ (n f : List ℕ) (j : ℕ) where
@@ -102,9 +104,10 @@ module _ (n f : List ℕ) (j : ℕ) where
 abbrev pub ValueTurn : List ℕ → List ℕ → ℕ → ℕ → Type 0
 ValueTurn n f i j = Turn (valueFrom n f) (length f) j (valueAt n f i)
 
-pub value-start : (n f : List ℕ) (i : ℕ) (p : Part) → p ≡ walk.nameOf f i → ValueTurn n f i (p .to)
+pub value-start : (n f : List ℕ) (i : ℕ) (p : Part) → p ≡ walk.nameAt f i → ValueTurn n f i (p .to)
 unfolding valueAt
-value-start n f i p e = start (valueFrom n f) (length f) (p .to) (valueAt n f i) (ap (λ (q : Part). valueFrom n f (suc (length f)) (q .to)) e)
+value-start n f i p e =
+    start (valueFrom n f) (length f) (p .to) (valueAt n f i) (ap (λ (q : Part). valueFrom n f (suc (length f)) (q .to)) e)
 
 module _ (n f : List ℕ) (i j : ℕ) (t : ValueTurn n f i j) where
   module _ (h : j < length f) (a e c k : ℕ) (r : TagPart.Attribute a e c k ≡ walk.partAt f j) (b : Bool) (x : b ≡ same (part f a e) n) where
@@ -114,12 +117,15 @@ module _ (n f : List ℕ) (i j : ℕ) (t : ValueTurn n f i j) where
         x ∙ ap (λ (s : List ℕ). same s n) (slice-part f a e (w .1) (omega (arith, w .2, w .3, w .4)))
 
     pub value-found : b ≡ true → record { from = c; to = k } ≡ valueAt n f i
-    value-found u = done (valueFrom n f) (length f) j (valueAt n f i) (record { from = c; to = k }) t h (λ m. value-here n f j m a e c k r (sym named ∙ u))
+    value-found u =
+        done (valueFrom n f) (length f) j (valueAt n f i) (record { from = c; to = k }) t h
+        (λ m. value-here n f j m a e c k r (sym named ∙ u))
 
     pub value-again : b ≡ false → ValueTurn n f i (k + 1)
     value-again u =
         let w = part-from f j (TagPart.Attribute a e c k) r in
-        next (valueFrom n f) (length f) j (valueAt n f i) (valueFrom n f) (k + 1) t h (omega (arith, w .0, w .1, w .2, w .3)) (λ m. value-next n f j m a e c k r (sym named ∙ u))
+        next (valueFrom n f) (length f) j (valueAt n f i) (valueFrom n f) (k + 1) t h (omega (arith, w .0, w .1, w .2, w .3))
+        (λ m. value-next n f j m a e c k r (sym named ∙ u))
 
   pub value-done : j < length f → (p : TagPart) → p ≡ walk.partAt f j → Last p → record { from = 0; to = 0 } ≡ valueAt n f i
   value-done h p r z = done (valueFrom n f) (length f) j (valueAt n f i) (record { from = 0; to = 0 }) t h (λ m. value-last n f j m p r z)
@@ -133,14 +139,16 @@ unfolding valueFrom
 bounds-from n f zero j = (omega arith, omega arith)
 bounds-from n f (suc m) j = by-part (walk.partAt f j) refl (part-bounds f j) (bounds-from n f m)
   where
-    by-part : (p : TagPart) → p ≡ walk.partAt f j → PartFrom f j p → ((k : ℕ) → (valueFrom n f m k .from ≤ valueFrom n f m k .to) × (valueFrom n f m k .to ≤ length f))
+    by-part : (p : TagPart) → p ≡ walk.partAt f j → PartFrom f j p
+        → ((k : ℕ) → (valueFrom n f m k .from ≤ valueFrom n f m k .to) × (valueFrom n f m k .to ≤ length f))
         → (valueFrom n f (suc m) j .from ≤ valueFrom n f (suc m) j .to) × (valueFrom n f (suc m) j .to ≤ length f)
     by-part (TagPart.Attribute a e c k) r b go =
-        by-cases (same (slice a e f) n) (λ t. rw (value-here n f j m a e c k r t) (b .3, omega (arith, b .4))) (λ t. rw (value-next n f j m a e c k r t) (go (k + 1)))
+        by-cases (same (slice a e f) n) (λ t. rw (value-here n f j m a e c k r t) (b .3, omega (arith, b .4)))
+        (λ t. rw (value-next n f j m a e c k r t) (go (k + 1)))
     by-part (TagPart.Open o) r b go = rw (value-last n f j m (TagPart.Open o) r tt) (omega arith, omega arith)
     by-part (TagPart.Empty o) r b go = rw (value-last n f j m (TagPart.Empty o) r tt) (omega arith, omega arith)
     by-part TagPart.Broken r b go = rw (value-last n f j m TagPart.Broken r tt) (omega arith, omega arith)
 
 pub value-bounds : (n f : List ℕ) (i : ℕ) → (valueAt n f i .from ≤ valueAt n f i .to) × (valueAt n f i .to ≤ length f)
 unfolding valueAt
-value-bounds n f i = bounds-from n f (suc (length f)) (walk.nameOf f i .to)
+value-bounds n f i = bounds-from n f (suc (length f)) (walk.nameAt f i .to)

@@ -3,7 +3,7 @@ use mathlib.Core.Path.{_≡_}
 use mathlib.Core.Bool.{Bool, true, false}
 use Rattle.schema.specs.declared.Kind.{Kind}
 use Rattle.element.specs.declared.Gathered.{Gathered}
-use Rattle.element.specs.Steps.{lacking, boundsCrossed, verdict}
+use Rattle.element.specs.ElementCode.{lacking, boundsCrossed, verdict}
 
 module _ (kind : Kind) (t : Bool) (g : Gathered) where
   pub is-unfit : g .five ≡ true → 5 ≡ verdict kind t g

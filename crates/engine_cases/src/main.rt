@@ -5,11 +5,12 @@
 // 'f' (frame), 'r' (remote frame), 'x' (extended frame) and 'e' (error frame) have channel, time, id and dlc, 't' (tick) a time.
 ghost use Prim.Native.Nat.{_+_, _≤_, _<_};
 ghost use lib.ListN.{length};
-use rules::Answer;
-use rules::Counts;
-use rules::Frame;
-use rules::Logging;
-use rules::Outcome;
+use event_rules::Answer;
+use event_rules::Counts;
+use event_rules::Frame;
+use event_rules::Logging;
+use event_rules::Outcome;
+use steps::start;
 
 const STDIN: i32 = 0;
 
@@ -79,7 +80,7 @@ fn narrow(x: u64) -> u32 {
 }
 
 fn begin(recorded: u32, idle: u32, stopped: u32, halted: u32) -> Outcome {
-    let engine = fresh::fresh_engine();
+    let engine = start::fresh_engine();
     let counts = Counts {
         recorded,
         idle,

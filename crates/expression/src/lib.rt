@@ -1,5 +1,6 @@
-// Expressions of triggers, read into postfix code.
+// An expression's text to postfix code.
 //
+// tokens: the text as numbers of tokens. The root reads them, level by level.
 // Promises: `compile` answers every input, by value and to the last word, as crates/grammar/specs/Outcome.antt says it: the words of the one tree
 // that the text is, or that it breaks the rules (refusal 11), or else that a word names no trigger (12).
 // May not touch: anything but the text and the names it is lent. It knows nothing of XML and nothing of where the code goes.
@@ -7,12 +8,16 @@ ghost use mathlib.Core.Path.{_≡_};
 ghost use mathlib.Core.List.{map};
 ghost use Prim.Native.Nat.{_≤_};
 ghost use lib.ListN.{length, drop};
-ghost use Rattle.lexer.specs.Lex.{namesIn};
+ghost use Rattle.grammar.specs.Lex.{namesIn};
 ghost use Rattle.grammar.specs.Tree.{or, and, code, coded};
-ghost use Rattle.grammar.specs.Outcome.{token, refused};
-ghost use Rattle.grammar.specs.Steps.{parseChain, parseOperand, bracketAt, named, compiledFrom, compiled, Agrees};
+ghost use Rattle.grammar.specs.Outcome.{tokenOf, noWords};
+ghost use Rattle.grammar.specs.GrammarCode.{parseChain, parseOperand, bracketAt, allNamed, compiledFrom, compiled, Agrees};
+
+pub mod tokens;
+
 use grammar::Compiled;
 use grammar::Got;
+use grammar::MOST;
 use grammar::Verdict;
 
 // Token numbers; the operators' words are the same numbers.
@@ -31,12 +36,10 @@ const UNKNOWN: u32 = 37;
 // How deep brackets may stand in one another.
 const DEPTH: usize = 8;
 
-const MOST: usize = lexer::MOST;
-
 // Operands parted by OR.
 fn read_or(toks: &[u32], at: usize, depth: usize, out: &mut [u32], n: usize) -> Got
     requires { ⌜ (at ≤ length (now toks)) × (n ≤ at) × (length (now toks) ≤ length (now out)) ⌝ }
-    ensures { λ r. ⌜ Agrees code (now (toks .entry)) at n (now (out .entry)) (now (out .exit)) (parseChain or depth (map token (drop at (now (toks .entry))))) r ⌝ }
+    ensures { λ r. ⌜ Agrees code (now (toks .entry)) at n (now (out .entry)) (now (out .exit)) (parseChain or depth (map tokenOf (drop at (now (toks .entry))))) r ⌝ }
 {
     let Got::At(first, words) = read_and(toks, at, depth, out, n) else {
         return Got::Fault;
@@ -60,7 +63,7 @@ fn read_or(toks: &[u32], at: usize, depth: usize, out: &mut [u32], n: usize) -> 
 // Operands parted by AND.
 fn read_and(toks: &[u32], at: usize, depth: usize, out: &mut [u32], n: usize) -> Got
     requires { ⌜ (at ≤ length (now toks)) × (n ≤ at) × (length (now toks) ≤ length (now out)) ⌝ }
-    ensures { λ r. ⌜ Agrees code (now (toks .entry)) at n (now (out .entry)) (now (out .exit)) (parseChain and depth (map token (drop at (now (toks .entry))))) r ⌝ }
+    ensures { λ r. ⌜ Agrees code (now (toks .entry)) at n (now (out .entry)) (now (out .exit)) (parseChain and depth (map tokenOf (drop at (now (toks .entry))))) r ⌝ }
 {
     let Got::At(first, words) = read_not(toks, at, depth, out, n) else {
         return Got::Fault;
@@ -84,7 +87,7 @@ fn read_and(toks: &[u32], at: usize, depth: usize, out: &mut [u32], n: usize) ->
 // NOT and its operand, a word, or an expression in brackets.
 fn read_not(toks: &[u32], at: usize, depth: usize, out: &mut [u32], n: usize) -> Got
     requires { ⌜ (at ≤ length (now toks)) × (n ≤ at) × (length (now toks) ≤ length (now out)) ⌝ }
-    ensures { λ r. ⌜ Agrees coded (now (toks .entry)) at n (now (out .entry)) (now (out .exit)) (parseOperand and depth (map token (drop at (now (toks .entry))))) r ⌝ }
+    ensures { λ r. ⌜ Agrees coded (now (toks .entry)) at n (now (out .entry)) (now (out .exit)) (parseOperand and depth (map tokenOf (drop at (now (toks .entry))))) r ⌝ }
 {
     if toks.len() <= at {
         return Got::Fault;
@@ -116,7 +119,7 @@ fn read_not(toks: &[u32], at: usize, depth: usize, out: &mut [u32], n: usize) ->
 // What stands behind an opening bracket, and the closing one.
 fn read_bracket(toks: &[u32], at: usize, depth: usize, out: &mut [u32], n: usize) -> Got
     requires { ⌜ (at ≤ length (now toks)) × (n ≤ at) × (length (now toks) ≤ length (now out)) ⌝ }
-    ensures { λ r. ⌜ Agrees coded (now (toks .entry)) at n (now (out .entry)) (now (out .exit)) (bracketAt (parseChain or) depth (map token (drop at (now (toks .entry))))) r ⌝ }
+    ensures { λ r. ⌜ Agrees coded (now (toks .entry)) at n (now (out .entry)) (now (out .exit)) (bracketAt (parseChain or) depth (map tokenOf (drop at (now (toks .entry))))) r ⌝ }
 {
     if depth == 0 {
         return Got::Fault;
@@ -135,7 +138,7 @@ fn read_bracket(toks: &[u32], at: usize, depth: usize, out: &mut [u32], n: usize
 
 // Does every word among the tokens name a trigger?
 fn all_named(toks: &[u32]) -> bool
-    ensures { λ r. ⌜ r ≡ named (now (toks .entry)) ⌝ }
+    ensures { λ r. ⌜ r ≡ allNamed (now (toks .entry)) ⌝ }
 {
     let mut i = 0;
     while i < toks.len() {
@@ -148,7 +151,7 @@ fn all_named(toks: &[u32]) -> bool
 }
 
 fn no_words(verdict: Verdict) -> Compiled
-    ensures { λ r. ⌜ r ≡ refused verdict ⌝ }
+    ensures { λ r. ⌜ r ≡ noWords verdict ⌝ }
 {
     Compiled {
         verdict,
@@ -182,7 +185,7 @@ fn compile_tokens(toks: &[u32]) -> Compiled
 pub fn compile(text: &[u8], file: &[u8], starts: &[usize], ends: &[usize]) -> Compiled
     ensures { λ r. ⌜ r ≡ compiled (namesIn (now (file .entry)) (now (starts .entry)) (now (ends .entry))) (now (text .entry)) ⌝ }
 {
-    let lexed = lexer::tokenise(text, file, starts, ends);
+    let lexed = tokens::tokenise(text, file, starts, ends);
     if !lexed.fine {
         return no_words(Verdict::Broken);
     }

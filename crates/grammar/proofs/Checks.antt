@@ -5,14 +5,14 @@ use mathlib.Core.Path.{_≡_, refl}
 use mathlib.Core.Option.{Option, none, some}
 use mathlib.Core.List.{List, [], _∷_}
 use lib.ListN.{take}
-use Rattle.ascii.specs.Texts.{bytes, same}
-use Rattle.letters.specs.Kinds.{isBlank, isStart, isDigit, isName}
+use Rattle.text.specs.Texts.{bytes, same}
+use Rattle.text.specs.Kinds.{isBlank, isStart, isDigit, isName}
 use Rattle.code.specs.Code.{wordOf}
-use Rattle.lexer.specs.Lex.{find, numberOf}
-use Rattle.lexer.specs.Steps.{lex, numbers}
+use Rattle.grammar.specs.Lex.{find, numberOf}
+use Rattle.grammar.specs.TokensCode.{lex, numbers}
 use Rattle.grammar.specs.Tree.{code}
-use Rattle.grammar.specs.Outcome.{token, refusal}
-use Rattle.grammar.specs.Steps.{readChain, parseChain, named, compiledFrom, compiled}
+use Rattle.grammar.specs.Outcome.{tokenOf, verdictRefusal}
+use Rattle.grammar.specs.GrammarCode.{readChain, parseChain, allNamed, compiledFrom, compiled}
 
 -- a text, its refusal if it has one, and its words
 pub record Check : Type 0 where
@@ -38,15 +38,17 @@ table =
 unfoldable pub Holds : List Check → Type 0
 Holds [] = Unit {0}
 Holds (c ∷ cs) =
-    (refusal (compiled abc (bytes (c .text)) .verdict) ≡ c .refused)
+    (verdictRefusal (compiled abc (bytes (c .text)) .verdict) ≡ c .refused)
     × (take (compiled abc (bytes (c .text)) .count) (compiled abc (bytes (c .text)) .words) ≡ c .words)
     × Holds cs
 
 pub checks : Holds table
-unfolding Holds table abc bytes same isBlank isStart isDigit isName find numberOf lex numbers token compiled compiledFrom parseChain readChain named code wordOf
+unfolding Holds table abc bytes same isBlank isStart isDigit isName find numberOf lex numbers tokenOf compiled compiledFrom parseChain
+    readChain allNamed code wordOf
 checks = (refl, refl, (refl, refl, (refl, refl, (refl, refl, (refl, refl, (refl, refl, (refl, refl, tt)))))))
 
 -- "equal operators group from the left": the first OR stands before the third operand
 pub from-the-left : take (compiled abc (bytes "a OR b OR c") .count) (compiled abc (bytes "a OR b OR c") .words) ≡ 0 ∷ 1 ∷ 33 ∷ 2 ∷ 33 ∷ []
-unfolding abc bytes same isBlank isStart isDigit isName find numberOf lex numbers token compiled compiledFrom parseChain readChain named code wordOf
+unfolding abc bytes same isBlank isStart isDigit isName find numberOf lex numbers tokenOf compiled compiledFrom parseChain readChain
+    allNamed code wordOf
 from-the-left = refl

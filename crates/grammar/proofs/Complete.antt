@@ -1,46 +1,51 @@
--- Whatever a tree prints is read back as that tree, where what follows does not go on with it. So at most one tree prints to a list of tokens.
+-- Whatever a tree prints is read back as that tree, where what follows does not go on with it. So at most one tree prints to a list of
+-- tokens.
 use Prim.Native.Nat.{ℕ, zero, suc, _≤_, max}
 use native.Mathlib.Omega.{arith}
 use mathlib.Core.Path.{_≡_, refl, sym, ap, _∙_}
 use mathlib.Core.Bool.{false}
 use mathlib.Core.List.{List, [], _∷_, _++_, append-assoc, append-nil}
-use Rattle.grammar.specs.Tree.{Tok, close′, Level, or, and, Chain, only, join, Operand, chain, name, negate, bracket, Expression, mark, print, printed, depth, deep}
-use Rattle.grammar.specs.Steps.{got, then′, isMark, parseChain, parseMore, parseOperand}
+use Rattle.grammar.specs.Tree.{Tok, close′, Operator, or, and, Chain, only, join, Operand, chain, name, negate, bracket, Expression, mark, print, printed, depth, deep}
+use Rattle.grammar.specs.GrammarCode.{got, then′, isMark, parseChain, parseMore, parseOperand}
 use Rattle.grammar.proofs.Sound.{Every, Front, sound-chain}
 use Rattle.grammar.proofs.Fuel.{parse-chain, parse-more, parse-or, parse-and}
 
 -- no operator of level b stands at the front
-abbrev Clear : Level → List Tok → Type 0
+abbrev Clear : Operator → List Tok → Type 0
 Clear b [] = Unit {0}
 Clear b (t ∷ l) = isMark b t ≡ false
 
 -- nothing at the front goes on with an operand of level b
-abbrev Ends : Level → List Tok → Type 0
+abbrev Ends : Operator → List Tok → Type 0
 Ends or l = Clear and l
 Ends and l = Unit {0}
 
-stop : (b : Level) (d : ℕ) (c : Chain b) (l : List Tok) → Clear b l → parseMore b d c l ≡ got c l
+stop : (b : Operator) (d : ℕ) (c : Chain b) (l : List Tok) → Clear b l → parseMore b d c l ≡ got c l
 stop b d c [] h = parse-more b d c []
 stop b d c (t ∷ l) h = rw (parse-more, h)
 
-mark-on : (b : Level) (d : ℕ) (c : Chain b) (l : List Tok) → parseMore b d c (mark b ∷ l) ≡ then′ (parseOperand b d l) (λ x l₁. parseMore b d (join c x) l₁)
+mark-on : (b : Operator) (d : ℕ) (c : Chain b) (l : List Tok)
+    → parseMore b d c (mark b ∷ l) ≡ then′ (parseOperand b d l) (λ x l₁. parseMore b d (join c x) l₁)
 mark-on or d c l = parse-more or d c (mark or ∷ l)
 mark-on and d c l = parse-more and d c (mark and ∷ l)
 
-mark-ends : (b : Level) (l : List Tok) → Ends b (mark b ∷ l)
+mark-ends : (b : Operator) (l : List Tok) → Ends b (mark b ∷ l)
 mark-ends or l = refl
 mark-ends and l = tt
 
 mutual
   unfolding print depth
 
-  complete-chain : {b : Level} (d : ℕ) (c : Chain b) (l : List Tok) → depth c ≤ d → Ends b l → parseChain b d (print c ++ l) ≡ parseMore b d c l
+  complete-chain : {b : Operator} (d : ℕ) (c : Chain b) (l : List Tok) → depth c ≤ d → Ends b l
+      → parseChain b d (print c ++ l) ≡ parseMore b d c l
   complete-chain {b} d (only x) l h n = rw (parse-chain, complete-operand d x l h n)
   complete-chain {b} d (join c x) l h n =
       rw append-assoc
-      (complete-chain d c (mark b ∷ (printed x ++ l)) (omega arith) (mark-ends b (printed x ++ l)) ∙ mark-on b d c (printed x ++ l) ∙ rw (complete-operand d x l (omega arith) n))
+      (complete-chain d c (mark b ∷ (printed x ++ l)) (omega arith) (mark-ends b (printed x ++ l)) ∙ mark-on b d c (printed x ++ l)
+      ∙ rw (complete-operand d x l (omega arith) n))
 
-  complete-operand : {b : Level} (d : ℕ) (x : Operand b) (l : List Tok) → deep x ≤ d → Ends b l → parseOperand b d (printed x ++ l) ≡ got x l
+  complete-operand : {b : Operator} (d : ℕ) (x : Operand b) (l : List Tok) → deep x ≤ d → Ends b l
+      → parseOperand b d (printed x ++ l) ≡ got x l
   complete-operand d (chain c) l h n = rw (parse-or, complete-chain d c l h tt, stop and d c l n)
   complete-operand d (name i) l h n = parse-and d _
   complete-operand d (negate x) l h n = rw (parse-and, complete-operand d x l h tt)

@@ -9,12 +9,12 @@ use lib.ListN.{length, take, drop, set, getD, drop-of-length-le}
 use lib.Seq.{drop-drop, drop-set-lt, take-suc-set}
 use lib.Dec.{eqb}
 use borrow.Author.Tests.{eqb-true, ne-eqb}
-use Rattle.ascii.proofs.Cases.{by-cases}
-use Rattle.ascii.proofs.Spans.{drop-one}
+use Rattle.lists.proofs.Cases.{by-cases}
+use Rattle.text.proofs.Spans.{drop-one}
 use Rattle.code.specs.Code.{Op, push, invert, wordOf}
-use Rattle.grammar.specs.Tree.{Tok, word, AND, OR, NOT, open′, close′, Level, or, and, Chain, only, join, chain, name, negate, bracket, Expression, mark, code, coded, joiner}
-use Rattle.grammar.specs.Outcome.{token}
-use Rattle.grammar.specs.Steps.{Res, got, fault, then′, isMark, closed, bracketAt, operandAt, parseChain, parseMore, parseOperand, Written, Agrees, read, failed}
+use Rattle.grammar.specs.Tree.{Tok, word, AND, OR, NOT, open′, close′, Operator, or, and, Chain, only, join, chain, name, negate, bracket, Expression, mark, code, coded, joiner}
+use Rattle.grammar.specs.Outcome.{tokenOf}
+use Rattle.grammar.specs.GrammarCode.{Res, got, fault, then′, isMark, closedBracket, bracketAt, operandAt, parseChain, parseMore, parseOperand, WroteCode, Agrees, read, failed}
 use Rattle.grammar.specs.declared.Got.{Got}
 use Rattle.grammar.specs.declared.Got.the-variants.{At, Fault}
 use Rattle.grammar.proofs.Sound.{mark-is}
@@ -29,8 +29,8 @@ back NOT = 34
 back open′ = 35
 back close′ = 36
 
-pub back-token : (t : ℕ) → back (token t) ≡ t
-unfolding token
+pub back-token : (t : ℕ) → back (tokenOf t) ≡ t
+unfolding tokenOf
 back-token t =
     by-cases (eqb t 32) (λ e. rw e (sym (eqb-true t 32 e))) λ n₀.
     by-cases (eqb t 33) (λ e. rw (n₀, e) (sym (eqb-true t 33 e))) λ n₁.
@@ -38,51 +38,55 @@ back-token t =
     by-cases (eqb t 35) (λ e. rw (n₀, n₁, n₂, e) (sym (eqb-true t 35 e))) λ n₃.
     by-cases (eqb t 36) (λ e. rw (n₀, n₁, n₂, n₃, e) (sym (eqb-true t 36 e))) λ n₄. rw (n₀, n₁, n₂, n₃, n₄)
 
-token-word : (t : ℕ) → (t ≡ 32 → ⊥) → (t ≡ 33 → ⊥) → (t ≡ 34 → ⊥) → (t ≡ 35 → ⊥) → (t ≡ 36 → ⊥) → token t ≡ word t
-unfolding token
+token-word : (t : ℕ) → (t ≡ 32 → ⊥) → (t ≡ 33 → ⊥) → (t ≡ 34 → ⊥) → (t ≡ 35 → ⊥) → (t ≡ 36 → ⊥) → tokenOf t ≡ word t
+unfolding tokenOf
 token-word t a b c d e = rw (ne-eqb t 32 a, ne-eqb t 33 b, ne-eqb t 34 c, ne-eqb t 35 d, ne-eqb t 36 e)
 
 -- the tokens from a place on
 module _ (ts : List ℕ) (at : ℕ) where
-  pub tokens-at : at < length ts → map token (drop at ts) ≡ token (getD ts at 0) ∷ map token (drop (at + 1) ts)
+  pub tokens-at : at < length ts → map tokenOf (drop at ts) ≡ tokenOf (getD ts at 0) ∷ map tokenOf (drop (at + 1) ts)
   tokens-at h = rw (drop-one ts at h)
 
-  pub tokens-end : length ts ≤ at → map token (drop at ts) ≡ []
+  pub tokens-end : length ts ≤ at → map tokenOf (drop at ts) ≡ []
   tokens-end h = rw (drop-of-length-le ts h)
 
 -- the token of an operator of two operands has the number of its word
-mark-number : (b : Level) (t : ℕ) → t ≡ wordOf (joiner b) → token t ≡ mark b
-unfolding token wordOf
-mark-number or t e = ap token e
-mark-number and t e = ap token e
+mark-number : (b : Operator) (t : ℕ) → t ≡ wordOf (joiner b) → tokenOf t ≡ mark b
+unfolding tokenOf wordOf
+mark-number or t e = ap tokenOf e
+mark-number and t e = ap tokenOf e
 
-no-mark : (b : Level) (t : ℕ) → (t ≡ wordOf (joiner b) → ⊥) → isMark b (token t) ≡ false
+no-mark : (b : Operator) (t : ℕ) → (t ≡ wordOf (joiner b) → ⊥) → isMark b (tokenOf t) ≡ false
 unfolding wordOf
-no-mark or t h = by-cases (isMark or (token t)) (λ e. absurd (h (sym (back-token t) ∙ ap back (mark-is or (token t) e)))) (λ e. e)
-no-mark and t h = by-cases (isMark and (token t)) (λ e. absurd (h (sym (back-token t) ∙ ap back (mark-is and (token t) e)))) (λ e. e)
+no-mark or t h = by-cases (isMark or (tokenOf t)) (λ e. absurd (h (sym (back-token t) ∙ ap back (mark-is or (tokenOf t) e)))) (λ e. e)
+no-mark and t h = by-cases (isMark and (tokenOf t)) (λ e. absurd (h (sym (back-token t) ∙ ap back (mark-is and (tokenOf t) e)))) (λ e. e)
 
-mark-true : (b : Level) → isMark b (mark b) ≡ true
+mark-true : (b : Operator) → isMark b (mark b) ≡ true
 mark-true or = refl
 mark-true and = refl
 
 -- where a chain goes on, and where it ends
-module _ (b : Level) (d : ℕ) (c : Chain b) (ts : List ℕ) (i : ℕ) where
+module _ (b : Operator) (d : ℕ) (c : Chain b) (ts : List ℕ) (i : ℕ) where
   goes-on : i < length ts → getD ts i 0 ≡ wordOf (joiner b)
-      → parseMore b d c (map token (drop i ts)) ≡ then′ (parseOperand b d (map token (drop (i + 1) ts))) (λ x l. parseMore b d (join c x) l)
+      → parseMore b d c (map tokenOf (drop i ts))
+      ≡ then′ (parseOperand b d (map tokenOf (drop (i + 1) ts))) (λ x l. parseMore b d (join c x) l)
   goes-on h e = rw (parse-more, tokens-at ts i h, mark-number b (getD ts i 0) e, mark-true b)
 
-  ends-at : i < length ts → (getD ts i 0 ≡ wordOf (joiner b) → ⊥) → parseMore b d c (map token (drop i ts)) ≡ got c (map token (drop i ts))
+  ends-at : i < length ts → (getD ts i 0 ≡ wordOf (joiner b) → ⊥)
+      → parseMore b d c (map tokenOf (drop i ts)) ≡ got c (map tokenOf (drop i ts))
   ends-at h e = rw (parse-more, tokens-at ts i h, no-mark b (getD ts i 0) e)
 
-  ends-over : length ts ≤ i → parseMore b d c (map token (drop i ts)) ≡ got c (map token (drop i ts))
+  ends-over : length ts ≤ i → parseMore b d c (map tokenOf (drop i ts)) ≡ got c (map tokenOf (drop i ts))
   ends-over h = rw (parse-more, tokens-end ts i h)
 
 -- what was written, step by step
-written-none : {ts : List ℕ} {at n : ℕ} {o : List ℕ} → at ≤ length ts → Written ts at n o o [] at n
-written-none {n = n} {o = o} h = record { on = omega arith; within = h; up = omega arith; spare = omega arith; before = sym (append-nil (take n o)); behind = refl }
+written-none : {ts : List ℕ} {at n : ℕ} {o : List ℕ} → at ≤ length ts → WroteCode ts at n o o [] at n
+written-none {n = n} {o = o} h =
+    record { on = omega arith; within = h; up = omega arith; spare = omega arith; before = sym (append-nil (take n o)); behind = refl }
 
 module _ {ts : List ℕ} {at n : ℕ} {o o₁ : List ℕ} {c : List Op} {i m : ℕ} where
-  written-then : {c₁ : List Op} {j k : ℕ} {o₂ : List ℕ} → Written ts at n o o₁ c i m → Written ts i m o₁ o₂ c₁ j k → Written ts at n o o₂ (c ++ c₁) j k
+  written-then : {c₁ : List Op} {j k : ℕ} {o₂ : List ℕ} → WroteCode ts at n o o₁ c i m → WroteCode ts i m o₁ o₂ c₁ j k
+      → WroteCode ts at n o o₂ (c ++ c₁) j k
   written-then {c₁ = c₁} {k = k} w v = record {
     on = omega (arith, w .on, v .on);
     within = v .within;
@@ -95,30 +99,45 @@ module _ {ts : List ℕ} {at n : ℕ} {o o₁ : List ℕ} {c : List Op} {i m : �
       further : drop m o₁ ≡ drop m o → drop k o₁ ≡ drop k o
       further e =
           let q : m + (k - m) ≡ k = omega (arith, v .up) in
-          ap (λ (x : ℕ). drop x o₁) (sym q) ∙ sym (drop-drop (k - m) m o₁) ∙ ap (drop (k - m)) e ∙ drop-drop (k - m) m o ∙ ap (λ (x : ℕ). drop x o) q
+          ap (λ (x : ℕ). drop x o₁) (sym q) ∙ sym (drop-drop (k - m) m o₁) ∙ ap (drop (k - m)) e ∙ drop-drop (k - m) m o
+          ∙ ap (λ (x : ℕ). drop x o) q
 
   -- an operator's word behind what was read behind its token, or a bracket's expression behind the bracket
-  written-op : (w : Op) → Written ts (at + 1) n o o₁ c i m → m < length o₁ → Written ts at n o (set o₁ m (wordOf w)) (c ++ (w ∷ [])) i (m + 1)
+  written-op : (w : Op) → WroteCode ts (at + 1) n o o₁ c i m → m < length o₁
+      → WroteCode ts at n o (set o₁ m (wordOf w)) (c ++ (w ∷ [])) i (m + 1)
   written-op x w h = record {
     on = omega (arith, w .on);
     within = w .within;
     up = omega (arith, w .up);
     spare = omega (arith, w .spare);
-    before = rw (add-one, take-suc-set o₁ m (wordOf x) h, w .before, map-append wordOf c (x ∷ [])) (append-assoc (take n o) (map wordOf c) (wordOf x ∷ []));
+    before =
+        rw (add-one, take-suc-set o₁ m (wordOf x) h, w .before, map-append wordOf c (x ∷ []))
+        (append-assoc (take n o) (map wordOf c) (wordOf x ∷ []));
     behind = drop-set-lt (m + 1) o₁ m (wordOf x) (omega arith) ∙ sym (drop-drop 1 m o₁) ∙ ap (drop 1) (w .behind) ∙ drop-drop 1 m o;
   }
 
-  written-open : Written ts (at + 1) n o o₁ c i m → Written ts at n o o₁ c i m
-  written-open w = record { on = omega (arith, w .on); within = w .within; up = w .up; spare = omega (arith, w .spare); before = w .before; behind = w .behind }
+  written-open : WroteCode ts (at + 1) n o o₁ c i m → WroteCode ts at n o o₁ c i m
+  written-open w =
+      record
+      { on = omega (arith, w .on); within = w .within; up = w .up; spare = omega (arith, w .spare); before = w .before; behind = w .behind }
 
-  written-close : Written ts at n o o₁ c i m → i < length ts → Written ts at n o o₁ c (i + 1) m
-  written-close w h = record { on = omega (arith, w .on); within = omega arith; up = w .up; spare = omega (arith, w .spare); before = w .before; behind = w .behind }
+  written-close : WroteCode ts at n o o₁ c i m → i < length ts → WroteCode ts at n o o₁ c (i + 1) m
+  written-close w h =
+      record {
+        on = omega (arith, w .on);
+        within = omega arith;
+        up = w .up;
+        spare = omega (arith, w .spare);
+        before = w .before;
+        behind =
+            w .behind;
+      }
 
 -- what an answer says
 pub record Took {A : Type 0} (codeOf : A → List Op) (ts : List ℕ) (at n : ℕ) (o o′ : List ℕ) (p : Res A) (i m : ℕ) : Type 0 where
   pub tree : A
-  pub same : p ≡ got tree (map token (drop i ts))
-  pub written : Written ts at n o o′ (codeOf tree) i m
+  pub same : p ≡ got tree (map tokenOf (drop i ts))
+  pub written : WroteCode ts at n o o′ (codeOf tree) i m
 
 module _ {A : Type 0} {codeOf : A → List Op} {ts : List ℕ} {at n : ℕ} {o o′ : List ℕ} {p : Res A} where
   took-at : {i m : ℕ} → Agrees codeOf ts at n o o′ p (At i m) → Took codeOf ts at n o o′ p i m
@@ -140,23 +159,28 @@ then-fault : {A B : Type 0} {p : Res A} (f : A → List Tok → Res B) → p ≡
 then-fault f e = ap (λ r. then′ r f) e
 
 -- an operand of OR is a chain of AND
-pub as-operand : (d : ℕ) (l : List Tok) {ts : List ℕ} {at n : ℕ} {o o′ : List ℕ} {r : Got} → Agrees code ts at n o o′ (parseChain and d l) r → Agrees coded ts at n o o′ (parseOperand or d l) r
+pub as-operand : (d : ℕ) (l : List Tok) {ts : List ℕ} {at n : ℕ} {o o′ : List ℕ} {r : Got} → Agrees code ts at n o o′ (parseChain and d l) r
+    → Agrees coded ts at n o o′ (parseOperand or d l) r
 unfolding code
 as-operand d l (read a i m e w) = read (chain a) i m (parse-or d l ∙ rw e) w
 as-operand d l (failed e) = failed (parse-or d l ∙ rw e)
 
--- A loop over the operands of a chain, from where it began: whatever chain x₀ was read before, reading on from there is reading on from here with x, whose code has the words that were added.
-pub record More (b : Level) (d : ℕ) (ts : List ℕ) (i₀ m₀ : ℕ) (o₀ : List ℕ) (i m : ℕ) (o : List ℕ) : Type 0 where
+-- A loop over the operands of a chain, from where it began: whatever chain x₀ was read before, reading on from there is reading on from
+-- here with x, whose code has the words that were added.
+pub record More (b : Operator) (d : ℕ) (ts : List ℕ) (i₀ m₀ : ℕ) (o₀ : List ℕ) (i m : ℕ) (o : List ℕ) : Type 0 where
   pub added : List Op
-  pub written : Written ts i₀ m₀ o₀ o added i m
-  pub reads : (x₀ : Chain b) → (x : Chain b) × (parseMore b d x₀ (map token (drop i₀ ts)) ≡ parseMore b d x (map token (drop i ts))) × (code x ≡ code x₀ ++ added)
+  pub written : WroteCode ts i₀ m₀ o₀ o added i m
+  pub reads : (x₀ : Chain b)
+      → (x : Chain b) × (parseMore b d x₀ (map tokenOf (drop i₀ ts)) ≡ parseMore b d x (map tokenOf (drop i ts)))
+      × (code x ≡ code x₀ ++ added)
 
-pub more-none : {b : Level} {d : ℕ} {ts : List ℕ} {i m : ℕ} {o : List ℕ} → i ≤ length ts → More b d ts i m o i m o
+pub more-none : {b : Operator} {d : ℕ} {ts : List ℕ} {i m : ℕ} {o : List ℕ} → i ≤ length ts → More b d ts i m o i m o
 more-none h = record { added = []; written = written-none h; reads = λ x. (x, refl, sym (append-nil (code x))) }
 
-module _ {b : Level} {d : ℕ} {ts : List ℕ} {i₀ m₀ i m : ℕ} {o₀ o : List ℕ} (more : More b d ts i₀ m₀ o₀ i m o) where
+module _ {b : Operator} {d : ℕ} {ts : List ℕ} {i₀ m₀ i m : ℕ} {o₀ o : List ℕ} (more : More b d ts i₀ m₀ o₀ i m o) where
   -- an operator and its right operand
-  pub more-one : {o₁ : List ℕ} {r : Got} {j k : ℕ} → i < length ts → getD ts i 0 ≡ wordOf (joiner b) → Agrees coded ts (i + 1) m o o₁ (parseOperand b d (map token (drop (i + 1) ts))) r → r ≡ At j k
+  pub more-one : {o₁ : List ℕ} {r : Got} {j k : ℕ} → i < length ts → getD ts i 0 ≡ wordOf (joiner b)
+      → Agrees coded ts (i + 1) m o o₁ (parseOperand b d (map tokenOf (drop (i + 1) ts))) r → r ≡ At j k
       → k < length o₁ → More b d ts i₀ m₀ o₀ j (k + 1) (set o₁ k (wordOf (joiner b)))
   unfolding code
   more-one h e a q g =
@@ -165,84 +189,105 @@ module _ {b : Level} {d : ℕ} {ts : List ℕ} {i₀ m₀ i m : ℕ} {o₀ o : L
         added = more .added ++ (coded (t .tree) ++ (joiner b ∷ []));
         written = written-then (more .written) (written-op (joiner b) (t .written) g);
         reads = λ x₀.
-            let x = more .reads x₀ in
-            (join (x .0) (t .tree), x .1 ∙ goes-on b d (x .0) ts i h e ∙ then-got (λ y l. parseMore b d (join (x .0) y) l) (t .same), rw (x .2) (append-assoc (code x₀) (more .added) (coded (t .tree) ++ (joiner b ∷ []))));
+            let x = more .reads x₀ in (
+              join (x .0) (t .tree),
+              x .1 ∙ goes-on b d (x .0) ts i h e
+                  ∙ then-got (λ y l. parseMore b d (join (x .0) y) l) (t .same),
+              rw (x .2)
+                  (append-assoc (code x₀) (more .added) (coded (t .tree) ++ (joiner b ∷ []))),
+            );
       }
 
-  module _ {at n : ℕ} {u : List ℕ} {r₀ : Got} (first : Agrees coded ts at n u o₀ (parseOperand b d (map token (drop at ts))) r₀) (q : r₀ ≡ At i₀ m₀) where
+  module _ {at n : ℕ} {u : List ℕ} {r₀ : Got} (first : Agrees coded ts at n u o₀ (parseOperand b d (map tokenOf (drop at ts))) r₀)
+      (q : r₀ ≡ At i₀ m₀) where
     -- the chain that has been read: the first operand and those that were added
-    chain-so-far : (x : Chain b) × (parseChain b d (map token (drop at ts)) ≡ parseMore b d x (map token (drop i ts))) × Written ts at n u o (code x) i m
+    chain-so-far : (x : Chain b) × (parseChain b d (map tokenOf (drop at ts)) ≡ parseMore b d x (map tokenOf (drop i ts)))
+        × WroteCode ts at n u o (code x) i m
     unfolding code
     chain-so-far =
         let t = took first q in
-        let x = more .reads (only (t .tree)) in
-        (x .0, parse-chain b d (map token (drop at ts)) ∙ then-got (λ y l. parseMore b d (only y) l) (t .same) ∙ x .1, subst (λ (c : List Op). Written ts at n u o c i m) (sym (x .2)) (written-then (t .written) (more .written)))
+        let x = more .reads (only (t .tree)) in (
+          x .0,
+          parse-chain b d (map tokenOf (drop at ts)) ∙ then-got (λ y l. parseMore b d (only y) l) (t .same)
+              ∙ x .1,
+          subst (λ (c : List Op). WroteCode ts at n u o c i m) (sym (x .2)) (written-then (t .written) (more .written)),
+        )
 
-    chain-done : ((x : Chain b) → parseMore b d x (map token (drop i ts)) ≡ got x (map token (drop i ts))) → Agrees code ts at n u o (parseChain b d (map token (drop at ts))) (At i m)
+    chain-done : ((x : Chain b) → parseMore b d x (map tokenOf (drop i ts)) ≡ got x (map tokenOf (drop i ts)))
+        → Agrees code ts at n u o (parseChain b d (map tokenOf (drop at ts))) (At i m)
     chain-done f = let x = chain-so-far in read (x .0) i m (x .1 ∙ f (x .0)) (x .2)
 
-    pub chain-ends : i < length ts → (getD ts i 0 ≡ wordOf (joiner b) → ⊥) → Agrees code ts at n u o (parseChain b d (map token (drop at ts))) (At i m)
+    pub chain-ends : i < length ts → (getD ts i 0 ≡ wordOf (joiner b) → ⊥)
+        → Agrees code ts at n u o (parseChain b d (map tokenOf (drop at ts))) (At i m)
     chain-ends h e = chain-done (λ x. ends-at b d x ts i h e)
 
-    pub chain-over : length ts ≤ i → Agrees code ts at n u o (parseChain b d (map token (drop at ts))) (At i m)
+    pub chain-over : length ts ≤ i → Agrees code ts at n u o (parseChain b d (map tokenOf (drop at ts))) (At i m)
     chain-over h = chain-done (λ x. ends-over b d x ts i h)
 
-    pub chain-breaks : {o₁ o₂ : List ℕ} {r : Got} → i < length ts → getD ts i 0 ≡ wordOf (joiner b) → Agrees coded ts (i + 1) m o o₁ (parseOperand b d (map token (drop (i + 1) ts))) r → r ≡ Fault
-        → Agrees code ts at n u o₂ (parseChain b d (map token (drop at ts))) Fault
+    pub chain-breaks : {o₁ o₂ : List ℕ} {r : Got} → i < length ts → getD ts i 0 ≡ wordOf (joiner b)
+        → Agrees coded ts (i + 1) m o o₁ (parseOperand b d (map tokenOf (drop (i + 1) ts))) r → r ≡ Fault
+        → Agrees code ts at n u o₂ (parseChain b d (map tokenOf (drop at ts))) Fault
     chain-breaks h e a z = let x = chain-so-far in failed (x .1 ∙ goes-on b d (x .0) ts i h e ∙ then-fault _ (faulty a z))
 
-pub no-chain : (b : Level) (d : ℕ) {ts : List ℕ} {at n : ℕ} {o o₁ : List ℕ} {r : Got} → Agrees coded ts at n o o₁ (parseOperand b d (map token (drop at ts))) r → r ≡ Fault
-    → Agrees code ts at n o o₁ (parseChain b d (map token (drop at ts))) Fault
-no-chain b d {ts} {at} a e = failed (parse-chain b d (map token (drop at ts)) ∙ then-fault _ (faulty a e))
+pub no-chain : (b : Operator) (d : ℕ) {ts : List ℕ} {at n : ℕ} {o o₁ : List ℕ} {r : Got}
+    → Agrees coded ts at n o o₁ (parseOperand b d (map tokenOf (drop at ts))) r → r ≡ Fault
+    → Agrees code ts at n o o₁ (parseChain b d (map tokenOf (drop at ts))) Fault
+no-chain b d {ts} {at} a e = failed (parse-chain b d (map tokenOf (drop at ts)) ∙ then-fault _ (faulty a e))
 
 -- an operand of AND, by its first token
-operand-at : (d : ℕ) (ts : List ℕ) (at : ℕ) → at < length ts → (x : Tok) → token (getD ts at 0) ≡ x
-    → parseOperand and d (map token (drop at ts)) ≡ operandAt (parseOperand and) (parseChain or) d (x ∷ map token (drop (at + 1) ts))
+operand-at : (d : ℕ) (ts : List ℕ) (at : ℕ) → at < length ts → (x : Tok) → tokenOf (getD ts at 0) ≡ x
+    → parseOperand and d (map tokenOf (drop at ts)) ≡ operandAt (parseOperand and) (parseChain or) d (x ∷ map tokenOf (drop (at + 1) ts))
 operand-at d ts at h x e = rw (parse-and, tokens-at ts at h, e)
 
 module _ (d : ℕ) {ts : List ℕ} {at n : ℕ} {o : List ℕ} where
-  pub no-operand : {o′ : List ℕ} → length ts ≤ at → Agrees coded ts at n o o′ (parseOperand and d (map token (drop at ts))) Fault
+  pub no-operand : {o′ : List ℕ} → length ts ≤ at → Agrees coded ts at n o o′ (parseOperand and d (map tokenOf (drop at ts))) Fault
   no-operand h = failed (rw (parse-and, tokens-end ts at h))
 
   module _ (h : at < length ts) where
-    pub and-first : {o′ : List ℕ} → getD ts at 0 ≡ 32 → Agrees coded ts at n o o′ (parseOperand and d (map token (drop at ts))) Fault
-    unfolding token
-    and-first e = failed (operand-at d ts at h AND (ap token e))
+    pub and-first : {o′ : List ℕ} → getD ts at 0 ≡ 32 → Agrees coded ts at n o o′ (parseOperand and d (map tokenOf (drop at ts))) Fault
+    unfolding tokenOf
+    and-first e = failed (operand-at d ts at h AND (ap tokenOf e))
 
-    pub or-first : {o′ : List ℕ} → getD ts at 0 ≡ 33 → Agrees coded ts at n o o′ (parseOperand and d (map token (drop at ts))) Fault
-    unfolding token
-    or-first e = failed (operand-at d ts at h OR (ap token e))
+    pub or-first : {o′ : List ℕ} → getD ts at 0 ≡ 33 → Agrees coded ts at n o o′ (parseOperand and d (map tokenOf (drop at ts))) Fault
+    unfolding tokenOf
+    or-first e = failed (operand-at d ts at h OR (ap tokenOf e))
 
-    pub close-first : {o′ : List ℕ} → getD ts at 0 ≡ 36 → Agrees coded ts at n o o′ (parseOperand and d (map token (drop at ts))) Fault
-    unfolding token
-    close-first e = failed (operand-at d ts at h close′ (ap token e))
+    pub close-first : {o′ : List ℕ} → getD ts at 0 ≡ 36 → Agrees coded ts at n o o′ (parseOperand and d (map tokenOf (drop at ts))) Fault
+    unfolding tokenOf
+    close-first e = failed (operand-at d ts at h close′ (ap tokenOf e))
 
-    pub a-word : n < length o → (getD ts at 0 ≡ 32 → ⊥) → (getD ts at 0 ≡ 33 → ⊥) → (getD ts at 0 ≡ 34 → ⊥) → (getD ts at 0 ≡ 35 → ⊥) → (getD ts at 0 ≡ 36 → ⊥)
-        → Agrees coded ts at n o (set o n (getD ts at 0)) (parseOperand and d (map token (drop at ts))) (At (at + 1) (n + 1))
+    pub a-word : n < length o → (getD ts at 0 ≡ 32 → ⊥) → (getD ts at 0 ≡ 33 → ⊥) → (getD ts at 0 ≡ 34 → ⊥) → (getD ts at 0 ≡ 35 → ⊥)
+        → (getD ts at 0 ≡ 36 → ⊥)
+        → Agrees coded ts at n o (set o n (getD ts at 0)) (parseOperand and d (map tokenOf (drop at ts))) (At (at + 1) (n + 1))
     unfolding code wordOf
     a-word g n₀ n₁ n₂ n₃ n₄ =
         read (name (getD ts at 0)) (at + 1) (n + 1) (operand-at d ts at h (word (getD ts at 0)) (token-word (getD ts at 0) n₀ n₁ n₂ n₃ n₄))
         (written-op (push (getD ts at 0)) (written-none {ts = ts} {at = at + 1} {n = n} {o = o} (omega arith)) g)
 
     module _ {o₁ : List ℕ} {r : Got} where
-      pub not-operand : {i m : ℕ} → getD ts at 0 ≡ 34 → Agrees coded ts (at + 1) n o o₁ (parseOperand and d (map token (drop (at + 1) ts))) r → r ≡ At i m → m < length o₁
-          → Agrees coded ts at n o (set o₁ m 34) (parseOperand and d (map token (drop at ts))) (At i (m + 1))
-      unfolding token code wordOf
-      not-operand {i} {m} e a q g = let t = took a q in read (negate (t .tree)) i (m + 1) (operand-at d ts at h NOT (ap token e) ∙ then-got (λ x l. got (negate x) l) (t .same)) (written-op invert (t .written) g)
+      pub not-operand : {i m : ℕ} → getD ts at 0 ≡ 34
+          → Agrees coded ts (at + 1) n o o₁ (parseOperand and d (map tokenOf (drop (at + 1) ts))) r → r ≡ At i m → m < length o₁
+          → Agrees coded ts at n o (set o₁ m 34) (parseOperand and d (map tokenOf (drop at ts))) (At i (m + 1))
+      unfolding tokenOf code wordOf
+      not-operand {i} {m} e a q g = let t = took a q in
+          read (negate (t .tree)) i (m + 1) (operand-at d ts at h NOT (ap tokenOf e) ∙ then-got (λ x l. got (negate x) l) (t .same))
+          (written-op invert (t .written) g)
 
-      pub not-nothing : {o₂ : List ℕ} → getD ts at 0 ≡ 34 → Agrees coded ts (at + 1) n o o₁ (parseOperand and d (map token (drop (at + 1) ts))) r → r ≡ Fault
-          → Agrees coded ts at n o o₂ (parseOperand and d (map token (drop at ts))) Fault
-      unfolding token
-      not-nothing e a z = failed (operand-at d ts at h NOT (ap token e) ∙ then-fault _ (faulty a z))
+      pub not-nothing : {o₂ : List ℕ} → getD ts at 0 ≡ 34
+          → Agrees coded ts (at + 1) n o o₁ (parseOperand and d (map tokenOf (drop (at + 1) ts))) r → r ≡ Fault
+          → Agrees coded ts at n o o₂ (parseOperand and d (map tokenOf (drop at ts))) Fault
+      unfolding tokenOf
+      not-nothing e a z = failed (operand-at d ts at h NOT (ap tokenOf e) ∙ then-fault _ (faulty a z))
 
     -- from behind the opening bracket to that bracket
-    pub in-brackets : {o₁ : List ℕ} {r : Got} → getD ts at 0 ≡ 35 → Agrees coded ts (at + 1) n o o₁ (bracketAt (parseChain or) d (map token (drop (at + 1) ts))) r
-        → Agrees coded ts at n o o₁ (parseOperand and d (map token (drop at ts))) r
-    unfolding token
-    in-brackets e (read a i m p w) = read a i m (operand-at d ts at h open′ (ap token e) ∙ p) (written-open w)
-    in-brackets e (failed p) = failed (operand-at d ts at h open′ (ap token e) ∙ p)
+    pub in-brackets : {o₁ : List ℕ} {r : Got} → getD ts at 0 ≡ 35
+        → Agrees coded ts (at + 1) n o o₁ (bracketAt (parseChain or) d (map tokenOf (drop (at + 1) ts))) r
+        → Agrees coded ts at n o o₁ (parseOperand and d (map tokenOf (drop at ts))) r
+    unfolding tokenOf
+    in-brackets e (read a i m p w) = read a i m (operand-at d ts at h open′ (ap tokenOf e) ∙ p) (written-open w)
+    in-brackets e (failed p) = failed (operand-at d ts at h open′ (ap tokenOf e) ∙ p)
 
-no-close : (e : Expression) (x : Tok) (l : List Tok) → (x ≡ close′ → ⊥) → closed e (x ∷ l) ≡ fault
+no-close : (e : Expression) (x : Tok) (l : List Tok) → (x ≡ close′ → ⊥) → closedBracket e (x ∷ l) ≡ fault
 no-close e (word i) l h = refl
 no-close e AND l h = refl
 no-close e OR l h = refl
@@ -250,30 +295,41 @@ no-close e NOT l h = refl
 no-close e open′ l h = refl
 no-close e close′ l h = absurd (h refl)
 
-bracket-eq : (d : ℕ) (l : List Tok) → (d ≡ 0 → ⊥) → bracketAt (parseChain or) d l ≡ then′ (parseChain or (d - 1) l) closed
+bracket-eq : (d : ℕ) (l : List Tok) → (d ≡ 0 → ⊥) → bracketAt (parseChain or) d l ≡ then′ (parseChain or (d - 1) l) closedBracket
 bracket-eq zero l z = absurd (z refl)
-bracket-eq (suc k) l z = let q : k ≡ suc k - 1 = omega arith in ap (λ j. then′ (parseChain or j l) closed) q
+bracket-eq (suc k) l z = let q : k ≡ suc k - 1 = omega arith in ap (λ j. then′ (parseChain or j l) closedBracket) q
 
 -- an expression in brackets, from behind the opening one
 module _ (d : ℕ) {ts : List ℕ} {at n : ℕ} {o o₁ : List ℕ} where
   pub too-deep : d ≡ 0 → (l : List Tok) → Agrees coded ts at n o o₁ (bracketAt (parseChain or) d l) Fault
   too-deep e l = rw e (failed refl)
 
-  module _ {r : Got} (z : d ≡ 0 → ⊥) (a : Agrees code ts at n o o₁ (parseChain or (d - 1) (map token (drop at ts))) r) where
-    pub nothing-inside : {o₂ : List ℕ} → r ≡ Fault → Agrees coded ts at n o o₂ (bracketAt (parseChain or) d (map token (drop at ts))) Fault
-    nothing-inside e = failed (bracket-eq d (map token (drop at ts)) z ∙ then-fault closed (faulty a e))
+  module _ {r : Got} (z : d ≡ 0 → ⊥) (a : Agrees code ts at n o o₁ (parseChain or (d - 1) (map tokenOf (drop at ts))) r) where
+    pub nothing-inside : {o₂ : List ℕ} → r ≡ Fault
+        → Agrees coded ts at n o o₂ (bracketAt (parseChain or) d (map tokenOf (drop at ts))) Fault
+    nothing-inside e = failed (bracket-eq d (map tokenOf (drop at ts)) z ∙ then-fault closedBracket (faulty a e))
 
     module _ {i m : ℕ} (e : r ≡ At i m) where
-      pub closes : i < length ts → getD ts i 0 ≡ 36 → Agrees coded ts at n o o₁ (bracketAt (parseChain or) d (map token (drop at ts))) (At (i + 1) m)
-      unfolding token code
+      pub closes : i < length ts → getD ts i 0 ≡ 36
+          → Agrees coded ts at n o o₁ (bracketAt (parseChain or) d (map tokenOf (drop at ts))) (At (i + 1) m)
+      unfolding tokenOf code
       closes h x =
           let t = took a e in
-          read (bracket (t .tree)) (i + 1) m (bracket-eq d (map token (drop at ts)) z ∙ then-got closed (t .same) ∙ ap (closed (t .tree)) (tokens-at ts i h) ∙ ap (λ y. closed (t .tree) (y ∷ map token (drop (i + 1) ts))) (ap token x)) (written-close (t .written) h)
+          read (bracket (t .tree)) (i + 1) m
+          (bracket-eq d (map tokenOf (drop at ts)) z ∙ then-got closedBracket (t .same)
+          ∙ ap (closedBracket (t .tree)) (tokens-at ts i h)
+          ∙ ap (λ y. closedBracket (t .tree) (y ∷ map tokenOf (drop (i + 1) ts))) (ap tokenOf x)) (written-close (t .written) h)
 
-      pub not-closed : i < length ts → (getD ts i 0 ≡ 36 → ⊥) → Agrees coded ts at n o o₁ (bracketAt (parseChain or) d (map token (drop at ts))) Fault
+      pub not-closed : i < length ts → (getD ts i 0 ≡ 36 → ⊥)
+          → Agrees coded ts at n o o₁ (bracketAt (parseChain or) d (map tokenOf (drop at ts))) Fault
       not-closed h x =
           let t = took a e in
-          failed (bracket-eq d (map token (drop at ts)) z ∙ then-got closed (t .same) ∙ ap (closed (t .tree)) (tokens-at ts i h) ∙ (no-close (t .tree) (token (getD ts i 0)) (map token (drop (i + 1) ts)) (λ y. x (sym (back-token _) ∙ ap back y))))
+          failed
+          (bracket-eq d (map tokenOf (drop at ts)) z ∙ then-got closedBracket (t .same)
+          ∙ ap (closedBracket (t .tree)) (tokens-at ts i h)
+          ∙ (no-close (t .tree) (tokenOf (getD ts i 0)) (map tokenOf (drop (i + 1) ts)) (λ y. x (sym (back-token _) ∙ ap back y))))
 
-      pub never-closed : length ts ≤ i → Agrees coded ts at n o o₁ (bracketAt (parseChain or) d (map token (drop at ts))) Fault
-      never-closed h = let t = took a e in failed (bracket-eq d (map token (drop at ts)) z ∙ then-got closed (t .same) ∙ ap (closed (t .tree)) (tokens-end ts i h))
+      pub never-closed : length ts ≤ i → Agrees coded ts at n o o₁ (bracketAt (parseChain or) d (map tokenOf (drop at ts))) Fault
+      never-closed h = let t = took a e in
+          failed
+          (bracket-eq d (map tokenOf (drop at ts)) z ∙ then-got closedBracket (t .same) ∙ ap (closedBracket (t .tree)) (tokens-end ts i h))

@@ -9,15 +9,14 @@ use lib.ListN.{length, take, drop, getD, replicate, length-take, length-append, 
 use lib.Seq.{take-append-seam}
 use lib.Dec.{leb}
 use borrow.Author.Tests.{lt-ltb, le-ltb, leb-true}
-use Rattle.ascii.proofs.Cases.{by-cases}
-use Rattle.ascii.proofs.Spans.{drop-one}
+use Rattle.lists.proofs.Cases.{by-cases}
+use Rattle.text.proofs.Spans.{drop-one}
 use Rattle.code.specs.Code.{wordOf}
-use Rattle.lexer.specs.Lex.{laid}
-use Rattle.lexer.specs.Steps.{numbers, lexed}
-use Rattle.lexer.specs.declared.Lexed.{Lexed}
+use Rattle.grammar.specs.TokensCode.{numbers, lexed, laidTokens}
+use Rattle.grammar.specs.declared.Lexed.{Lexed}
 use Rattle.grammar.specs.Tree.{or, Expression, code}
-use Rattle.grammar.specs.Outcome.{token, refused}
-use Rattle.grammar.specs.Steps.{Res, parseChain, whole, named, judged, compiledFrom, ifAny, compiled, Agrees}
+use Rattle.grammar.specs.Outcome.{tokenOf, noWords}
+use Rattle.grammar.specs.GrammarCode.{Res, parseChain, whole, allNamed, judgedCode, compiledFrom, ifAny, compiled, Agrees}
 use Rattle.grammar.specs.declared.Got.{Got}
 use Rattle.grammar.specs.declared.Got.the-variants.{At, Fault}
 use Rattle.grammar.specs.declared.Compiled.{Compiled}
@@ -26,16 +25,16 @@ use Rattle.grammar.proofs.Laws.{tokens-at, tokens-end, took, faulty}
 
 -- are all words named
 module _ (ts : List ℕ) (i : ℕ) where
-  pub named-next : i < length ts → getD ts i 0 < 37 → named (drop i ts) ≡ named (drop (i + 1) ts)
-  unfolding named
+  pub named-next : i < length ts → getD ts i 0 < 37 → allNamed (drop i ts) ≡ allNamed (drop (i + 1) ts)
+  unfolding allNamed
   named-next h g = rw (drop-one ts i h, lt-ltb (getD ts i 0) 37 g)
 
-  pub named-none : i < length ts → 37 ≤ getD ts i 0 → named (drop i ts) ≡ false
-  unfolding named
+  pub named-none : i < length ts → 37 ≤ getD ts i 0 → allNamed (drop i ts) ≡ false
+  unfolding allNamed
   named-none h g = rw (drop-one ts i h, le-ltb (getD ts i 0) 37 g)
 
-  pub named-over : length ts ≤ i → named (drop i ts) ≡ true
-  unfolding named
+  pub named-over : length ts ≤ i → allNamed (drop i ts) ≡ true
+  unfolding allNamed
   named-over h = rw (drop-of-length-le ts h)
 
 drop-zeros : (n k : ℕ) → drop {A = ℕ} n (replicate k 0) ≡ replicate (k - n) 0
@@ -44,24 +43,25 @@ drop-zeros (suc n) zero = let q : 0 ≡ 0 - suc n = omega arith in ap (λ (j : �
 drop-zeros (suc n) (suc k) = let q : k - n ≡ suc k - suc n = omega arith in drop-zeros n k ∙ ap (λ (j : ℕ). replicate j 0) q
 
 -- what becomes of the tokens, by what the reader of the code answered
-module _ {ts o : List ℕ} {r : Got} (a : Agrees code ts 0 0 (replicate 64 0) o (parseChain or 8 (map token ts)) r) where
-  pub no-expression : r ≡ Fault → compiledFrom ts ≡ refused Broken
+module _ {ts o : List ℕ} {r : Got} (a : Agrees code ts 0 0 (replicate 64 0) o (parseChain or 8 (map tokenOf ts)) r) where
+  pub no-expression : r ≡ Fault → compiledFrom ts ≡ noWords Broken
   unfolding compiledFrom
-  no-expression e = ap (λ (p : Res Expression). judged (named ts) (whole p)) (faulty a e)
+  no-expression e = ap (λ (p : Res Expression). judgedCode (allNamed ts) (whole p)) (faulty a e)
 
   module _ {i m : ℕ} (e : r ≡ At i m) where
-    pub left-over : i < length ts → compiledFrom ts ≡ refused Broken
+    pub left-over : i < length ts → compiledFrom ts ≡ noWords Broken
     unfolding compiledFrom
-    left-over h = let t = took a e in ap (λ (p : Res Expression). judged (named ts) (whole p)) (t .same) ∙ rw (tokens-at ts i h)
+    left-over h = let t = took a e in ap (λ (p : Res Expression). judgedCode (allNamed ts) (whole p)) (t .same) ∙ rw (tokens-at ts i h)
 
-    all-read : length ts ≤ i → compiledFrom ts ≡ judged (named ts) (some (took a e .tree))
+    all-read : length ts ≤ i → compiledFrom ts ≡ judgedCode (allNamed ts) (some (took a e .tree))
     unfolding compiledFrom
-    all-read h = let t = took a e in ap (λ (p : Res Expression). judged (named ts) (whole p)) (t .same) ∙ rw (tokens-end ts i h)
+    all-read h = let t = took a e in ap (λ (p : Res Expression). judgedCode (allNamed ts) (whole p)) (t .same) ∙ rw (tokens-end ts i h)
 
-    pub some-unnamed : length ts ≤ i → named ts ≡ false → compiledFrom ts ≡ refused Unknown
+    pub some-unnamed : length ts ≤ i → allNamed ts ≡ false → compiledFrom ts ≡ noWords Unknown
     some-unnamed h n = all-read h ∙ rw n
 
-    pub all-named : length ts ≤ 64 → length o ≡ 64 → length ts ≤ i → named ts ≡ true → compiledFrom ts ≡ record { verdict = Good; count = m; words = o }
+    pub all-named : length ts ≤ 64 → length o ≡ 64 → length ts ≤ i → allNamed ts ≡ true
+        → compiledFrom ts ≡ record { verdict = Good; count = m; words = o }
     all-named s l h n =
         let t = took a e in
         let w = t .written in
@@ -69,19 +69,21 @@ module _ {ts o : List ℕ} {r : Got} (a : Agrees code ts 0 0 (replicate 64 0) o 
         let q : m ≡ length ws = omega (arith, w .spare, w .within, l, length-take m o, ap length (w .before)) in
         let z : drop m o ≡ replicate (64 - m) 0 = w .behind ∙ drop-zeros m 64 in
         let k : ws ++ replicate (64 - length ws) 0 ≡ o =
-        ap (λ (j : ℕ). ws ++ replicate (64 - j) 0) (sym q) ∙ ap (λ (x : List ℕ). ws ++ x) (sym z) ∙ ap (λ (x : List ℕ). x ++ drop m o) (sym (w .before)) ∙ take-append-drop m o in
+        ap (λ (j : ℕ). ws ++ replicate (64 - j) 0) (sym q) ∙ ap (λ (x : List ℕ). ws ++ x) (sym z)
+        ∙ ap (λ (x : List ℕ). x ++ drop m o) (sym (w .before)) ∙ take-append-drop m o in
         all-read h ∙ rw n (same-answer (length ws) m (ws ++ replicate (64 - length ws) 0) o (sym q) k)
       where
-        same-answer : (n₁ n₂ : ℕ) (w₁ w₂ : List ℕ) → n₁ ≡ n₂ → w₁ ≡ w₂ → _≡_ {A = Compiled} (record { verdict = Good; count = n₁; words = w₁ }) (record { verdict = Good; count = n₂; words = w₂ })
+        same-answer : (n₁ n₂ : ℕ) (w₁ w₂ : List ℕ) → n₁ ≡ n₂ → w₁ ≡ w₂
+            → _≡_ {A = Compiled} (record { verdict = Good; count = n₁; words = w₁ }) (record { verdict = Good; count = n₂; words = w₂ })
         same-answer n₁ n₂ w₁ w₂ p q = rw (p, q)
 
 -- what becomes of a text, by what `tokenise` answered
 module _ (names : List (List ℕ)) (text : List ℕ) where
-  pub unfit-text : {r : Lexed} → r ≡ lexed names text → r .fine ≡ false → compiled names text ≡ refused Broken
+  pub unfit-text : {r : Lexed} → r ≡ lexed names text → r .fine ≡ false → compiled names text ≡ noWords Broken
   unfolding lexed compiled
   unfit-text p f = go (numbers names text) (sym (ap (λ (l : Lexed). l .fine) p) ∙ f)
     where
-      go : (x : Option (List ℕ)) → laid x .fine ≡ false → ifAny x ≡ refused Broken
+      go : (x : Option (List ℕ)) → laidTokens x .fine ≡ false → ifAny x ≡ noWords Broken
       go none f = refl
       go (some ts) f = by-cases (leb (length ts) 64) (λ e. absurd (false≢true (sym (rw e at f)))) (λ e. rw e)
 
@@ -92,10 +94,16 @@ module _ (names : List (List ℕ)) (text : List ℕ) where
   unfolding lexed compiled
   fit-text p f = subst Fit (sym p) (go (numbers names text) (sym (ap (λ (l : Lexed). l .fine) p) ∙ f))
     where
-      go : (x : Option (List ℕ)) → laid x .fine ≡ true → (laid x .count ≤ 64) × (length (laid x .tokens) ≡ 64) × (ifAny x ≡ compiledFrom (take (laid x .count) (laid x .tokens)))
+      go : (x : Option (List ℕ)) → laidTokens x .fine ≡ true
+          → (laidTokens x .count ≤ 64) × (length (laidTokens x .tokens) ≡ 64) × (ifAny x ≡ compiledFrom (take (laidTokens x .count) (laidTokens x .tokens)))
       go none f = absurd (false≢true f)
       go (some ts) f =
           by-cases (leb (length ts) 64)
           (λ e. let h = leb-true (length ts) 64 e in
-          rw e (h, omega (arith, length-append ts (replicate (64 - length ts) 0), length-replicate {A = ℕ} (64 - length ts) 0), rw (take-append-seam ts (replicate (64 - length ts) 0))))
+          rw e (
+            h,
+            omega (arith, length-append ts (replicate (64 - length ts) 0), length-replicate {A = ℕ} (64 - length ts) 0),
+            rw
+                (take-append-seam ts (replicate (64 - length ts) 0)),
+          ))
           (λ e. absurd (false≢true (rw e at f)))

@@ -1,4 +1,6 @@
--- What the contracts cite. `Tree` and `Outcome` are what a reader must believe; `Steps` serves the functions' contracts.
+-- `Lex`, `Tree` and `Outcome` are what a reader must believe; TokensCode and GrammarCode serve contracts.
 pub mod Tree
 pub mod Outcome
-pub mod Steps
+pub mod Lex
+pub mod TokensCode
+pub mod GrammarCode

@@ -10,17 +10,17 @@ pub data Tok : Type 0 where
   AND OR NOT open′ close′ : Tok
 
 -- the operators of two operands
-pub data Level : Type 0 where
-  or and : Level
+pub data Operator : Type 0 where
+  or and : Operator
 
 -- "NOT binds tightest, then AND, then OR; equal operators group from the left."
 mutual
   -- one operand, or what stands to the left of the last operator and the operand to its right
-  pub data Chain : Level → Type 0 where
-    only : {b : Level} → Operand b → Chain b
-    join : {b : Level} → Chain b → Operand b → Chain b
+  pub data Chain : Operator → Type 0 where
+    only : {b : Operator} → Operand b → Chain b
+    join : {b : Operator} → Chain b → Operand b → Chain b
 
-  pub data Operand : Level → Type 0 where
+  pub data Operand : Operator → Type 0 where
     chain : Chain and → Operand or
     name : ℕ → Operand and
     negate : Operand and → Operand and
@@ -30,16 +30,16 @@ abbrev pub Expression : Type 0
 Expression = Chain or
 
 -- the grammar: an expression is what some tree prints to
-abbrev pub mark : Level → Tok
+abbrev pub mark : Operator → Tok
 mark or = OR
 mark and = AND
 
 unfoldable mutual
-  pub print : {b : Level} → Chain b → List Tok
+  pub print : {b : Operator} → Chain b → List Tok
   print (only x) = printed x
   print {b} (join c x) = print c ++ (mark b ∷ printed x)
 
-  pub printed : {b : Level} → Operand b → List Tok
+  pub printed : {b : Operator} → Operand b → List Tok
   printed (chain c) = print c
   printed (name i) = word i ∷ []
   printed (negate x) = NOT ∷ printed x
@@ -47,43 +47,43 @@ unfoldable mutual
 
 -- how deep brackets stand in one another
 unfoldable mutual
-  pub depth : {b : Level} → Chain b → ℕ
+  pub depth : {b : Operator} → Chain b → ℕ
   depth (only x) = deep x
   depth (join c x) = max (depth c) (deep x)
 
-  pub deep : {b : Level} → Operand b → ℕ
+  pub deep : {b : Operator} → Operand b → ℕ
   deep (chain c) = depth c
   deep (name i) = 0
   deep (negate x) = deep x
   deep (bracket e) = suc (depth e)
 
 -- what a tree says where v has the triggers' states
-abbrev pub joins : Level → Bool → Bool → Bool
+abbrev pub joins : Operator → Bool → Bool → Bool
 joins or = _||_
 joins and = _&&_
 
 unfoldable mutual
-  pub mean : {b : Level} → Chain b → (ℕ → Bool) → Bool
+  pub mean : {b : Operator} → Chain b → (ℕ → Bool) → Bool
   mean (only x) v = means x v
   mean {b} (join c x) v = joins b (mean c v) (means x v)
 
-  pub means : {b : Level} → Operand b → (ℕ → Bool) → Bool
+  pub means : {b : Operator} → Operand b → (ℕ → Bool) → Bool
   means (chain c) v = mean c v
   means (name i) v = v i
   means (negate x) v = not (means x v)
   means (bracket e) v = mean e v
 
 -- "Code is postfix, left operand first"
-abbrev pub joiner : Level → Op
+abbrev pub joiner : Operator → Op
 joiner or = either
 joiner and = both
 
 unfoldable mutual
-  pub code : {b : Level} → Chain b → List Op
+  pub code : {b : Operator} → Chain b → List Op
   code (only x) = coded x
   code {b} (join c x) = code c ++ (coded x ++ (joiner b ∷ []))
 
-  pub coded : {b : Level} → Operand b → List Op
+  pub coded : {b : Operator} → Operand b → List Op
   coded (chain c) = code c
   coded (name i) = push i ∷ []
   coded (negate x) = coded x ++ (invert ∷ [])

@@ -1,11 +1,25 @@
-// The grammar of triggers' expressions: what a text says, what becomes of it, and the types of the answers.
+// Expressions of triggers: tokens, trees, meaning, code, refusals 11 and 12: definitions, laws and the types of the answers.
 //
-// Promises: specs/Tree.antt states the trees, what they mean and their code, specs/Outcome.antt the rules and the refusals, once; the theorems on
-// them stand in proofs/.
+// Promises: specs/Lex.antt states the tokens of a text, specs/Tree.antt the trees, what they mean and their code, specs/Outcome.antt the rules and
+// the refusals, once; the theorems on them stand in proofs/.
 // May not touch: anything; it has no code.
 
-// The most words that a text has: one for each token.
-const MOST: usize = lexer::MOST;
+// The most tokens that an expression has, and the most words: one for each token.
+pub const MOST: usize = 64;
+
+// The numbers of a text's tokens; not fine where a byte is at fault or there are more than fit.
+pub struct Lexed {
+    pub fine: bool,
+    pub count: usize,
+    pub tokens: [u32; MOST],
+}
+
+// What stands at a place of a text: a token's number and the place behind it, a blank, or a byte at fault.
+pub enum Lexeme {
+    Next(u32, usize),
+    Skip,
+    Wrong,
+}
 
 pub enum Verdict {
     Good,

@@ -3,12 +3,12 @@
 // Promises: answer, state and record are exactly as the engine's call by value gives them.
 // May not touch: anything but the record that is lent.
 ghost use mathlib.Core.Path.{_≡_};
-ghost use Rattle.rules.specs.Rules.{Event};
-ghost use Rattle.rules.specs.Calls.{Answers};
-use rules::Counts;
-use rules::Engine;
-use rules::Frame;
-use rules::Outcome;
+ghost use Rattle.event_rules.specs.Rules.{Event};
+ghost use Rattle.event_rules.specs.Calls.{Answers};
+use event_rules::Counts;
+use event_rules::Engine;
+use event_rules::Frame;
+use event_rules::Outcome;
 
 // One frame; the record becomes the outcome's counts.
 pub fn frame_into(words: &[u32], en: Engine, counts: &mut Counts, f: Frame) -> Outcome

@@ -7,13 +7,15 @@ ghost use Prim.Native.Nat.{_^_, _<_, _≤_};
 ghost use lib.ListN.{length, getD};
 ghost use Rattle.records.specs.Records.{flag, timeoutWord, triggerWords, effectWord, filterWords, timeoutIn, idTop, causeIn, filterIn};
 ghost use Rattle.loader.specs.Plan.{Loads};
-ghost use Rattle.records.specs.Readers.{timeoutAt, triggerAt, effectAt, filterAt, actionAt, triggerSize, filterSize, statementSize};
-ghost use Rattle.loader.specs.Scan.{starts, triggerOk, filterOk, actionOk, actionsOk, statementOk, sizeOf, okOf, fits, sectionFrom, headerOk};
+ghost use Rattle.records.specs.RecordsCode.{timeoutAt, triggerAt, effectAt, filterAt, actionAt, triggerSize, filterSize, statementSize};
+ghost use Rattle.loader.specs.ScanCode.{starts, triggerOk, filterOk, actionOk, actionsOk, statementOk, sizeOf, okOf, fits, sectionFrom, headerOk};
 use records::Cause;
 use records::DLC_TOP;
 use records::Filter;
 use records::NEWEST;
 use records::Timeout;
+use records::sizes;
+use records::words;
 
 // A kind of record, with the number that its ranges go by: channels, masks, triggers.
 pub enum Section {
@@ -75,7 +77,7 @@ fn cause_in(cause: Cause, n: u32) -> bool
             lower,
             upper,
         } => {
-            let top = record_sizes::id_top(ext);
+            let top = sizes::id_top(ext);
             (channel < n) & (lower <= upper) & (upper <= top)
         }
         Cause::Length {
@@ -92,7 +94,7 @@ fn trigger_ok(rec: &[u32], n: u32) -> bool
     ensures { λ r. ⌜ r ≡ triggerOk n (now (rec .entry)) ⌝ }
 {
     let t = records::trigger_at(rec);
-    let spelt = record_words::trigger_words(t);
+    let spelt = words::trigger_words(t);
     let same = starts_with(rec, &spelt);
     let timeout = t.timeout;
     let cause = t.cause;
@@ -105,7 +107,7 @@ fn trigger_ok(rec: &[u32], n: u32) -> bool
 fn filter_in(x: Filter, masks: u32) -> bool
     ensures { λ r. ⌜ r ≡ filterIn masks x ⌝ }
 {
-    let top = record_sizes::id_top(x.ext);
+    let top = sizes::id_top(x.ext);
     (1 <= x.mask)
         & (x.mask < masks)
         & (x.lower <= x.upper)
@@ -118,7 +120,7 @@ fn filter_ok(rec: &[u32], masks: u32) -> bool
     ensures { λ r. ⌜ r ≡ filterOk masks (now (rec .entry)) ⌝ }
 {
     let x = records::filter_at(rec);
-    let spelt = record_words::filter_words(x);
+    let spelt = words::filter_words(x);
     let same = starts_with(rec, &spelt);
     let fine = filter_in(x, masks);
     same & fine
@@ -166,9 +168,9 @@ fn record_size(section: Section, rec: &[u32]) -> usize
     ensures { λ r. ⌜ (r ≡ sizeOf section (now (rec .entry))) × (r < 8589934600) ⌝ }
 {
     match section {
-        Section::Triggers(_) => record_sizes::trigger_size(rec),
-        Section::Filters(_) => record_sizes::filter_size(rec),
-        Section::Statements(_) => record_sizes::statement_size(rec),
+        Section::Triggers(_) => sizes::trigger_size(rec),
+        Section::Filters(_) => sizes::filter_size(rec),
+        Section::Statements(_) => sizes::statement_size(rec),
     }
 }
 

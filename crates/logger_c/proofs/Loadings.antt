@@ -3,7 +3,7 @@ use Prim.Native.Nat.{ℕ}
 use mathlib.Core.Path.{_≡_, refl, subst}
 use mathlib.Core.List.{List}
 use Rattle.loader.specs.Plan.{Loads}
-use Rattle.loader.specs.Scan.{planAt}
+use Rattle.loader.specs.ScanCode.{planAt}
 use Rattle.loader.specs.declared.Layout.{Layout}
 use Rattle.loader.specs.declared.Loaded.{Loaded}
 use Rattle.loader.specs.declared.Loaded.the-variants.{Taken, Refused}

@@ -2,7 +2,7 @@
 use Prim.Native.Nat.{ℕ}
 use mathlib.Core.List.{List}
 use Rattle.loader.specs.Plan.{PlanOf}
-use Rattle.rules.specs.declared.Counts.{Counts}
+use Rattle.event_rules.specs.declared.Counts.{Counts}
 
 -- 0 where the words are those of a plan in range, 20 where they are of none
 pub data Loading (ws : List ℕ) : ℕ → Type 0 where

@@ -4,10 +4,10 @@
 // event. Neither keeps anything between calls.
 // May not touch: files, XML.
 ghost use mathlib.Core.Path.{_≡_};
-ghost use Rattle.replaying.specs.Replay.{howMany, Replays};
+ghost use Rattle.replay.specs.Replay.{eventsAnswered, Replays};
 ghost use Rattle.logger_c.specs.Calls.{Loading, countsOf};
+use event_rules::Counts;
 use loader::Loaded;
-use rules::Counts;
 
 // 0 where the words are a plan, else 20.
 #[no_mangle]
@@ -32,7 +32,7 @@ pub extern "C" fn steamfiddle_replay(
     halted: u32,
     out: &mut [u8],
 ) -> u64
-    ensures { λ r. ⌜ (r ≡ howMany (now (events .entry)) (now (out .entry))) × Replays (now (plan .entry)) (now (events .entry)) (countsOf recorded idle stopped halted) (now (out .entry)) (now (out .exit)) ⌝ }
+    ensures { λ r. ⌜ (r ≡ eventsAnswered (now (events .entry)) (now (out .entry))) × Replays (now (plan .entry)) (now (events .entry)) (countsOf recorded idle stopped halted) (now (out .entry)) (now (out .exit)) ⌝ }
 {
     let counts = Counts {
         recorded,
@@ -40,6 +40,6 @@ pub extern "C" fn steamfiddle_replay(
         stopped,
         halted,
     };
-    let n = replaying::replay(plan, events, counts, out);
+    let n = replay::replay(plan, events, counts, out);
     n as u64
 }

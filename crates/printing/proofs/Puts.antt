@@ -10,31 +10,32 @@ use native.Mathlib.Numerals.{add-one}
 use lib.ListN.{length, getD, set, take, drop, length-take, length-drop, length-append, length-set, drop-of-length-le}
 use lib.Seq.{take-all, take-nil, take-suc, take-append-le, drop-cons, set-at, append-snoc}
 use borrow.Author.Tests.{lt-ltb, le-ltb}
-use Rattle.ascii.specs.Texts.{bytes}
+use Rattle.text.specs.Texts.{bytes}
 use Rattle.converter.specs.declared.Converted.{Converted}
 use Rattle.converter.specs.declared.Converted.the-variants.{Words, Refused}
 use Rattle.converter.specs.Converter.{Converts}
 use Rattle.printing.specs.declared.Form.{Form}
 use Rattle.printing.specs.declared.Form.the-variants as forms
-use Rattle.printing.specs.Printing.{digitsOf, decimal, line, refusalText, planText, wordLines, wordsText, textOf, printed, Prints, prints}
-use Rattle.printing.specs.Steps.{Put, Adds}
+use Rattle.printing.specs.Printing.{digitsOf, decimal, textLine, refusalText, planText, wordLines, wordsText, formText, printedOver, Prints, prints}
+use Rattle.printing.specs.PrintingCode.{Put, Adds}
+use Rattle.lists.proofs.Fills.{taken}
 
 -- where the whole text fits
-whole : (t d : List ℕ) → length t ≤ length d → printed t d ≡ t ++ drop (length t) d
-unfolding printed
+whole : (t d : List ℕ) → length t ≤ length d → printedOver t d ≡ t ++ drop (length t) d
+unfolding printedOver
 whole t d h = rw (take-all (length d) t h)
 
 -- where it does not
-cut : (t d : List ℕ) → length d ≤ length t → printed t d ≡ take (length d) t
-unfolding printed
+cut : (t d : List ℕ) → length d ≤ length t → printedOver t d ≡ take (length d) t
+unfolding printedOver
 cut t d h = rw (drop-of-length-le d h) (append-nil (take (length d) t))
 
 -- where it is cut off, what stands behind it changes nothing
-cut-more : (t u d : List ℕ) → length d ≤ length t → printed (t ++ u) d ≡ printed t d
+cut-more : (t u d : List ℕ) → length d ≤ length t → printedOver (t ++ u) d ≡ printedOver t d
 cut-more t u d h = cut (t ++ u) d (omega (arith, length-append t u)) ∙ take-append-le (length d) t u h ∙ sym (cut t d h)
 
-pub length-printed : (t d : List ℕ) → length (printed t d) ≡ length d
-unfolding printed
+pub length-printed : (t d : List ℕ) → length (printedOver t d) ≡ length d
+unfolding printedOver
 length-printed t d = simp (length-append, length-take, length-drop) (omega arith)
 
 -- ---- a byte
@@ -51,8 +52,9 @@ module _ (b at : ℕ) (d t c : List ℕ) (p : Put t c at d) where
       let i : length t < length c = omega (arith, same-room) in
       let w : d ≡ t ++ getD c (length t) 0 ∷ drop (suc (length t)) c =
       p .text ∙ whole t c (omega arith) ∙ ap (λ (l : List ℕ). t ++ l) (drop-cons c (length t) 0 i) in
-      let v : printed (t ++ b ∷ []) c ≡ t ++ b ∷ drop (suc (length t)) c =
-      whole (t ++ b ∷ []) c (omega (arith, longer)) ∙ ap (λ (n : ℕ). (t ++ b ∷ []) ++ drop n c) (longer ∙ add-one (length t)) ∙ append-snoc t b (drop (suc (length t)) c) in
+      let v : printedOver (t ++ b ∷ []) c ≡ t ++ b ∷ drop (suc (length t)) c =
+      whole (t ++ b ∷ []) c (omega (arith, longer)) ∙ ap (λ (n : ℕ). (t ++ b ∷ []) ++ drop n c) (longer ∙ add-one (length t))
+      ∙ append-snoc t b (drop (suc (length t)) c) in
       record {
         count = omega (arith, longer);
         text = ap (λ (l : List ℕ). set l at b) w ∙ set-at t (getD c (length t) 0) (drop (suc (length t)) c) b at k ∙ sym v;
@@ -82,11 +84,12 @@ adds-more {u} {v} {d} {e} {f} {at} {r} {q} a b = record {
 
 -- from the start of the buffer
 pub adds-all : {u d e : List ℕ} {r : ℕ} → Adds u 0 d r e → Put u d r e
-unfolding printed
+unfolding printedOver
 adds-all {u} {d} {e} {r} a = a .added [] d (record { count = omega arith; text = rw (take-nil (length d)) })
 
 -- a copy, byte by byte
-pub copied-more : (s d e f : List ℕ) (from i at r : ℕ) → Adds (take i s) from d at e → i < length s → Adds (getD s i 0 ∷ []) at e r f → Adds (take (i + 1) s) from d r f
+pub copied-more : (s d e f : List ℕ) (from i at r : ℕ) → Adds (take i s) from d at e → i < length s → Adds (getD s i 0 ∷ []) at e r f
+    → Adds (take (i + 1) s) from d r f
 copied-more s d e f from i at r a h b = rw (add-one i, take-suc s i 0 h) (adds-more a b)
 
 pub copied-all : (s d e : List ℕ) (from i at : ℕ) → Adds (take i s) from d at e → length s ≤ i → Adds s from d at e
@@ -114,27 +117,25 @@ digits-more (suc k) n h g =
 lines-append : (a b : List ℕ) → wordLines (a ++ b) ≡ wordLines a ++ wordLines b
 unfolding wordLines
 lines-append [] b = refl
-lines-append (w ∷ a) b = ap (λ (l : List ℕ). line "" w ++ l) (lines-append a b) ∙ sym (append-assoc (line "" w) (wordLines a) (wordLines b))
+lines-append (w ∷ a) b = ap (λ (l : List ℕ). textLine "" w ++ l) (lines-append a b)
+    ∙ sym (append-assoc (textLine "" w) (wordLines a) (wordLines b))
 
 line-alone : (w : ℕ) → wordLines (w ∷ []) ≡ decimal w ++ bytes "\n"
-unfolding wordLines line bytes
+unfolding wordLines textLine bytes
 line-alone w = append-nil (decimal w ++ bytes "\n")
 
 pub lines-none : (ws d : List ℕ) → Adds (wordLines (take 0 ws)) 0 d 0 d
 unfolding wordLines
 lines-none ws d = adds-none 0 d (omega arith)
 
-pub lines-more : (ws d e f : List ℕ) (i at r w : ℕ) → Adds (wordLines (take i ws)) 0 d at e → i < length ws → w ≡ getD ws i 0 → Adds (decimal w ++ bytes "\n") at e r f
+pub lines-more : (ws d e f : List ℕ) (i at r w : ℕ) → Adds (wordLines (take i ws)) 0 d at e → i < length ws → w ≡ getD ws i 0
+    → Adds (decimal w ++ bytes "\n") at e r f
     → Adds (wordLines (take (i + 1) ws)) 0 d r f
 lines-more ws d e f i at r w a h q b =
     rw (add-one i, take-suc ws i 0 h, lines-append (take i ws) (getD ws i 0 ∷ []), line-alone (getD ws i 0), ← q) (adds-more a b)
 
-taken : (n : ℕ) (ws : List ℕ) → take (min n (length ws)) ws ≡ take n ws
-taken zero ws = ap (λ (k : ℕ). take k ws) (zero-min (length ws))
-taken (suc n) [] = take-nil (min (suc n) 0)
-taken (suc n) (w ∷ ws) = ap (λ (k : ℕ). take k (w ∷ ws)) (suc-min-suc n (length ws)) ∙ ap (λ l. w ∷ l) (taken n ws)
-
-pub lines-all : (ws d e : List ℕ) (n m i at : ℕ) → m ≡ min n (length ws) → i ≤ m → m ≤ i → Adds (wordLines (take i ws)) 0 d at e → Put (wordLines (take n ws)) d at e
+pub lines-all : (ws d e : List ℕ) (n m i at : ℕ) → m ≡ min n (length ws) → i ≤ m → m ≤ i → Adds (wordLines (take i ws)) 0 d at e
+    → Put (wordLines (take n ws)) d at e
 lines-all ws d e n m i at q h g a =
     let k : i ≡ min n (length ws) = omega arith in
     rw (← taken n ws, ← k) (adds-all a)
@@ -146,33 +147,36 @@ pub summed : (ws : List ℕ) (n : ℕ) {d d1 d2 d3 d4 d5 e : List ℕ} {a b c f 
     → c ≡ getD ws 3 0
     → f ≡ getD ws 4 0
     → g ≡ getD ws 5 0
-    → Adds (line "channels=" a) 0 d r1 d1
-    → Adds (line "log_all=" b) r1 d1 r2 d2
-    → Adds (line "triggers=" c) r2 d2 r3 d3
-    → Adds (line "filters=" f) r3 d3 r4 d4
-    → Adds (line "statements=" g) r4 d4 r5 d5
-    → Adds (line "words=" n) r5 d5 r e
+    → Adds (textLine "channels=" a) 0 d r1 d1
+    → Adds (textLine "log_all=" b) r1 d1 r2 d2
+    → Adds (textLine "triggers=" c) r2 d2 r3 d3
+    → Adds (textLine "filters=" f) r3 d3 r4 d4
+    → Adds (textLine "statements=" g) r4 d4 r5 d5
+    → Adds (textLine "words=" n) r5 d5 r e
     → Put (planText (Words n) ws) d r e
 unfolding planText
-summed ws n pa pb pc pf pg x1 x2 x3 x4 x5 x6 = rw (← pa, ← pb, ← pc, ← pf, ← pg) (adds-all (adds-more x1 (adds-more x2 (adds-more x3 (adds-more x4 (adds-more x5 x6))))))
+summed ws n pa pb pc pf pg x1 x2 x3 x4 x5 x6 =
+    rw (← pa, ← pb, ← pc, ← pf, ← pg) (adds-all (adds-more x1 (adds-more x2 (adds-more x3 (adds-more x4 (adds-more x5 x6))))))
 
 -- ---- the answer of `convert`, told
-told : {say : Converted → List ℕ → List ℕ} {s d e t f : List ℕ} {a b : Converted} {r : ℕ} → Converts s d a e → a ≡ b → Put (say b e) t r f → Prints say s d t r e f
+told : {say : Converted → List ℕ → List ℕ} {s d e t f : List ℕ} {a b : Converted} {r : ℕ} → Converts s d a e → a ≡ b → Put (say b e) t r f
+    → Prints say s d t r e f
 told {say} {s} {d} {e} {t} {f} {a} {b} {r} h q p = rw (p .count, p .text) (prints b e (rw q at h))
 
 module _ {form : Form} {s d e t f : List ℕ} {a : Converted} {r n : ℕ} (h : Converts s d a e) where
-  pub told-plan : a ≡ Words n → form ≡ forms.Plan → Put (planText (Words n) e) t r f → Prints (textOf form) s d t r e f
-  unfolding textOf
+  pub told-plan : a ≡ Words n → form ≡ forms.Plan → Put (planText (Words n) e) t r f → Prints (formText form) s d t r e f
+  unfolding formText
   told-plan q g p = rw g (told h q p)
 
-  pub told-words : a ≡ Words n → form ≡ forms.Words → Put (wordLines (take n e)) t r f → Prints (textOf form) s d t r e f
-  unfolding textOf wordsText
+  pub told-words : a ≡ Words n → form ≡ forms.Words → Put (wordLines (take n e)) t r f → Prints (formText form) s d t r e f
+  unfolding formText wordsText
   told-words q g p = rw g (told h q p)
 
-refused-alike : (form : Form) (n p : ℕ) (ws : List ℕ) → refusalText n p ≡ textOf form (Refused n p) ws
-unfolding textOf planText wordsText
+refused-alike : (form : Form) (n p : ℕ) (ws : List ℕ) → refusalText n p ≡ formText form (Refused n p) ws
+unfolding formText planText wordsText
 refused-alike forms.Plan n p ws = refl
 refused-alike forms.Words n p ws = refl
 
-pub told-refusal : (form : Form) {s d e t f : List ℕ} {a : Converted} {r n p : ℕ} → Converts s d a e → a ≡ Refused n p → Put (refusalText n p) t r f → Prints (textOf form) s d t r e f
+pub told-refusal : (form : Form) {s d e t f : List ℕ} {a : Converted} {r n p : ℕ} → Converts s d a e → a ≡ Refused n p
+    → Put (refusalText n p) t r f → Prints (formText form) s d t r e f
 told-refusal form {e = e} {n = n} {p} h q w = told h q (rw (← refused-alike form n p e) w)

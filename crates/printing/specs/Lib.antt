@@ -1,3 +1,3 @@
--- `Printing` is what a reader must believe; `Steps` serves the contracts of the inner functions.
+-- `Printing` is what a reader must believe; PrintingCode serves the contracts of inner functions.
 pub mod Printing
-pub mod Steps
+pub mod PrintingCode

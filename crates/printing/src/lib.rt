@@ -6,10 +6,10 @@ ghost use Prim.Native.Nat.{_≤_, min};
 ghost use mathlib.Core.Path.{_≡_};
 ghost use mathlib.Core.List.{[], _∷_, _++_};
 ghost use lib.ListN.{length, getD, take};
-ghost use Rattle.ascii.specs.Texts.{bytes};
+ghost use Rattle.text.specs.Texts.{bytes};
 ghost use Rattle.converter.specs.declared.Converted.the-variants.{Words};
-ghost use Rattle.printing.specs.Printing.{digitsOf, decimal, refusalText, planText, wordLines, textOf, Prints};
-ghost use Rattle.printing.specs.Steps.{Put, Adds};
+ghost use Rattle.printing.specs.Printing.{digitsOf, decimal, refusalText, planText, wordLines, formText, Prints};
+ghost use Rattle.printing.specs.PrintingCode.{Put, Adds};
 use converter::Converted;
 
 // Whose text is wanted: that of the program `plan`, or that of the program `convert`.
@@ -118,7 +118,7 @@ fn put_lines(n: usize, words: &[u32], out: &mut [u8]) -> usize
 
 // Converts a file, and writes the text of that form. Answers how many bytes that are.
 pub fn print_answer(form: Form, file: &[u8], words: &mut [u32], text: &mut [u8]) -> usize
-    ensures { λ r. ⌜ Prints (textOf form) (now (file .entry)) (now (words .entry)) (now (text .entry)) r (now (words .exit)) (now (text .exit)) ⌝ }
+    ensures { λ r. ⌜ Prints (formText form) (now (file .entry)) (now (words .entry)) (now (text .entry)) r (now (words .exit)) (now (text .exit)) ⌝ }
 {
     match converter::convert(file, words) {
         Converted::Words(n) => match form {

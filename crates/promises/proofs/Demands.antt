@@ -1,10 +1,10 @@
 -- The demands hold.
-use Rattle.xml_laws.proofs.OneDoc.{one-doc}
+use Rattle.shape.proofs.OneDoc.{one-doc}
 use Rattle.loader.proofs.Exact as loader
 use Rattle.converter.proofs.Once.{one-converted}
 use Rattle.converter_c.proofs.Packing.{one-converting}
-use Rattle.rules.proofs.History.{answers-once, count-from-fresh}
-use Rattle.replaying.proofs.Replays.{replays-once}
+use Rattle.event_rules.proofs.HistoryLaws.{answers-once, count-from-fresh}
+use Rattle.replay.proofs.Replays.{replays-once}
 use Rattle.logger_c.proofs.Loadings.{loading-once}
 use Rattle.promises.specs.Promises.{Demand1, Demand2, Demand3}
 use Rattle.promises.proofs.Refusals.{file-refused, plan-refused, event-refused, record-kept, c-converted, c-loaded}

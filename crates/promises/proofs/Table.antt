@@ -2,22 +2,23 @@
 use mathlib.Core.Path.{refl}
 use mathlib.Core.List.{zipWith}
 use lib.ListN.{take}
-use Rattle.ascii.specs.Texts.{bytes, same}
-use Rattle.letters.specs.Kinds.{isBlank, isStart, isDigit, isName}
-use Rattle.values.specs.Values.{digit, digitsFrom, digits, number}
+use Rattle.text.specs.Texts.{bytes, same}
+use Rattle.text.specs.Kinds.{isBlank, isStart, isDigit, isName}
+use Rattle.values.specs.Values.{digit, digitsFrom, digits, numberSpelt}
 use Rattle.code.specs.Code.{wordOf}
-use Rattle.lexer.specs.Lex.{find, numberOf}
-use Rattle.lexer.specs.Steps.{lex, numbers}
+use Rattle.grammar.specs.Lex.{find, numberOf}
+use Rattle.grammar.specs.TokensCode.{lex, numbers}
 use Rattle.grammar.specs.Tree.{code}
-use Rattle.grammar.specs.Outcome.{token, refusal}
-use Rattle.grammar.specs.Steps.{readChain, parseChain, named, compiledFrom, compiled}
+use Rattle.grammar.specs.Outcome.{tokenOf, verdictRefusal}
+use Rattle.grammar.specs.GrammarCode.{readChain, parseChain, allNamed, compiledFrom, compiled}
 use Rattle.grammar.proofs.Ruled.{gives}
-use Rattle.rules.specs.Rules.{matches, filtersOn, firstMatch, passes, fires, states, firings}
+use Rattle.event_rules.specs.Rules.{matches, filtersOn, firstMatch, passes, fires, states, firings}
 use Rattle.promises.specs.Promises.{Every}
 use Rattle.promises.specs.Checks.{abc, Holds, table}
 
 pub hand-checks : Every Holds table
-unfolding Every table bytes same isBlank isStart isDigit isName find numberOf lex numbers token compiled compiledFrom parseChain readChain named code wordOf digit digitsFrom digits number matches filtersOn firstMatch passes fires states firings zipWith
+unfolding Every table bytes same isBlank isStart isDigit isName find numberOf lex numbers tokenOf compiled compiledFrom parseChain readChain
+    allNamed code wordOf digit digitsFrom digits numberSpelt matches filtersOn firstMatch passes fires states firings zipWith
 hand-checks = (
   (compiled abc (bytes "a OR b AND NOT c"), gives abc (bytes "a OR b AND NOT c"), refl, refl),
   (

@@ -6,27 +6,27 @@ use mathlib.Core.Option.{Option, none, some}
 use mathlib.Core.List.{List, [], _∷_}
 use mathlib.Core.Bool.{Bool, true, false}
 use lib.ListN.{take, replicate}
-use Rattle.ascii.specs.Texts.{bytes}
+use Rattle.text.specs.Texts.{bytes}
 use Rattle.values.specs.declared.Number.{Number}
 use Rattle.values.specs.declared.Number.the-variants.{Value, Nothing}
-use Rattle.values.specs.Values.{number}
+use Rattle.values.specs.Values.{numberSpelt}
 use Rattle.grammar.specs.declared.Compiled.{Compiled}
-use Rattle.grammar.specs.Outcome.{Gives, refusal}
+use Rattle.grammar.specs.Outcome.{Gives, verdictRefusal}
 use Rattle.records.specs.declared.Cause.the-variants.{Id}
 use Rattle.records.specs.declared.Timeout.the-variants.{Ms}
 use Rattle.records.specs.declared.Trigger.{Trigger}
 use Rattle.records.specs.declared.Effect.the-variants.{Pass, Stop}
 use Rattle.records.specs.declared.Filter.{Filter}
-use Rattle.rules.specs.Rules.{Event, frame, tick, passes, states, firings}
-use Rattle.rules.specs.Calls.{fresh}
+use Rattle.event_rules.specs.Rules.{Event, frame, tick, passes, states, firings}
+use Rattle.event_rules.specs.Calls.{fresh}
 
 -- "with a, b, c as 0, 1, 2"
 abbrev pub abc : List (List ℕ)
 abc = bytes "a" ∷ bytes "b" ∷ bytes "c" ∷ []
 
 -- a frame on channel 0, at a time, with an identifier
-abbrev pub at : ℕ → ℕ → Event
-at u id = frame (record { channel = 0; time = u; error = false; remote = false; ext = false; id = id; dlc = 8; bytes = replicate 8 0 })
+abbrev pub idFrame : ℕ → ℕ → Event
+idFrame u id = frame (record { channel = 0; time = u; error = false; remote = false; ext = false; id = id; dlc = 8; bytes = replicate 8 0 })
 
 -- "Pass 100 to 200 and stop 150 on channel 0"
 abbrev pub passAndStop : List Filter
@@ -39,22 +39,22 @@ abbrev pub hundred : List Trigger
 hundred = record { cause = Id 0 false 150 150; timeout = Ms 100 } ∷ []
 
 abbrev pub stateAt : ℕ → List Bool
-stateAt u = states hundred false (tick u) (firings hundred false (at 5000 150) (fresh .fired))
+stateAt u = states hundred false (tick u) (firings hundred false (idFrame 5000 150) (fresh .fired))
 
 -- a row: an expression with its refusal or its code, a number, an identifier that passes or not, a time with the trigger's state
-pub data Row : Type 0 where
-  expression : String → Option ℕ → List ℕ → Row
-  spelling : String → Number → Row
-  identifier : ℕ → Bool → Row
-  time : ℕ → Bool → Row
+pub data Check : Type 0 where
+  expression : String → Option ℕ → List ℕ → Check
+  spelling : String → Number → Check
+  identifier : ℕ → Bool → Check
+  time : ℕ → Bool → Check
 
-abbrev pub Holds : Row → Type 0
-Holds (expression t r ws) = (c : Compiled) × Gives abc (bytes t) c × (refusal (c .verdict) ≡ r) × (take (c .count) (c .words) ≡ ws)
-Holds (spelling t v) = number (bytes t) ≡ v
-Holds (identifier id b) = passes passAndStop (at 0 id) ≡ b
+abbrev pub Holds : Check → Type 0
+Holds (expression t r ws) = (c : Compiled) × Gives abc (bytes t) c × (verdictRefusal (c .verdict) ≡ r) × (take (c .count) (c .words) ≡ ws)
+Holds (spelling t v) = numberSpelt (bytes t) ≡ v
+Holds (identifier id b) = passes passAndStop (idFrame 0 id) ≡ b
 Holds (time u b) = stateAt u ≡ b ∷ []
 
-unfoldable pub table : List Row
+unfoldable pub table : List Check
 table =
     expression "a OR b AND NOT c" none (0 ∷ 1 ∷ 2 ∷ 34 ∷ 32 ∷ 33 ∷ []) ∷
     expression "(a OR b) AND c" none (0 ∷ 1 ∷ 33 ∷ 2 ∷ 32 ∷ []) ∷

@@ -23,7 +23,7 @@ newest = 1
 abbrev pub dlcTop : ℕ
 dlcTop = 8
 
-pub record Statement : Type 0 where
+pub record PlanStatement : Type 0 where
   pub post : ℕ
   pub actions : List Action
   pub code : List ℕ
@@ -63,7 +63,7 @@ actionWord StopLog = 2
 actionWord StopLogCompletely = 3
 
 -- each statement: posttrigger, number of actions, number of code words, actions, code
-abbrev pub statementWords : Statement → List ℕ
+abbrev pub statementWords : PlanStatement → List ℕ
 statementWords s = s .post ∷ length (s .actions) ∷ length (s .code) ∷ (map actionWord (s .actions) ++ s .code)
 
 -- ---- the ranges

@@ -1,10 +1,14 @@
-// One record of a plan: what a trigger, a filter or an action says, and how it is read off its words.
+// One record of a plan: what a trigger, a filter or an action says, its words, its size, its range.
 //
-// Promises: each function answers by the definition of its record, for every input.
-// May not touch: the plan as a whole. Which records make a plan is the loader's.
+// The root reads a record off its words; words: the words of one; sizes: how many it has, and the largest identifier.
+// Promises: each function answers by the definition of its record (specs/Records.antt), for every input.
+// May not touch: the plan as a whole. Which records make a plan is the loader's, where words go is the writer's.
 ghost use mathlib.Core.Path.{_≡_};
 ghost use lib.ListN.{getD};
-ghost use Rattle.records.specs.Readers.{timeoutAt, triggerAt, effectAt, filterAt, actionAt};
+ghost use Rattle.records.specs.RecordsCode.{timeoutAt, triggerAt, effectAt, filterAt, actionAt};
+
+pub mod sizes;
+pub mod words;
 
 // The first word of every plan, and the largest length code.
 pub const NEWEST: u32 = 1;

@@ -14,14 +14,18 @@ abbrev pub tag : Kind → ℕ
 tag k = tagOf the-type k
 
 abbrev pub every : List Kind
-every = File ∷ Kvaser ∷ Version ∷ Settings ∷ Mode ∷ CanBus ∷ Parameters ∷ TriggerBlock ∷ Triggers ∷ MsgId ∷ MsgDlc ∷ ErrorFrame ∷ Startup ∷ Statements ∷ Statement ∷ Expression ∷ Actions ∷ StartLog ∷ StopLog ∷ StopLogCompletely ∷ Filters ∷ MessagePass ∷ MessageStop ∷ Channel ∷ NotCarried ∷ Unknown ∷ []
+every = File ∷ Kvaser ∷ Version ∷ Settings ∷ Mode ∷ CanBus ∷ Parameters ∷ TriggerBlock ∷ Triggers ∷ MsgId ∷ MsgDlc ∷ ErrorFrame ∷ Startup
+    ∷ Statements ∷ Statement ∷ Expression ∷ Actions ∷ StartLog ∷ StopLog ∷ StopLogCompletely ∷ Filters ∷ MessagePass ∷ MessageStop ∷ Channel
+    ∷ NotCarried ∷ Unknown ∷ []
 
 -- those that hold no element, and those that have no attribute
 abbrev pub leaves : List Kind
-leaves = Version ∷ Mode ∷ Parameters ∷ MsgId ∷ MsgDlc ∷ ErrorFrame ∷ Startup ∷ Expression ∷ StartLog ∷ StopLog ∷ StopLogCompletely ∷ Channel ∷ NotCarried ∷ Unknown ∷ []
+leaves = Version ∷ Mode ∷ Parameters ∷ MsgId ∷ MsgDlc ∷ ErrorFrame ∷ Startup ∷ Expression ∷ StartLog ∷ StopLog ∷ StopLogCompletely ∷ Channel
+    ∷ NotCarried ∷ Unknown ∷ []
 
 abbrev pub plain : List Kind
-plain = File ∷ Kvaser ∷ Version ∷ Settings ∷ CanBus ∷ TriggerBlock ∷ Triggers ∷ Statements ∷ Expression ∷ Actions ∷ StartLog ∷ StopLog ∷ StopLogCompletely ∷ Filters ∷ Channel ∷ NotCarried ∷ Unknown ∷ []
+plain = File ∷ Kvaser ∷ Version ∷ Settings ∷ CanBus ∷ TriggerBlock ∷ Triggers ∷ Statements ∷ Expression ∷ Actions ∷ StartLog ∷ StopLog
+    ∷ StopLogCompletely ∷ Filters ∷ Channel ∷ NotCarried ∷ Unknown ∷ []
 
 pick : {A : Type 0} (f : Kind → A) (d : A) (k : Kind) → getD (map f every) (tag k) d ≡ f k
 pick f d File = refl

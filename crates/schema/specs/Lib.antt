@@ -1,2 +1,3 @@
+-- `Schema` is what a reader must believe; SchemaCode is what the contracts cite.
 pub mod Schema
-pub mod Steps
+pub mod SchemaCode

@@ -3,13 +3,15 @@ use Prim.Native.Nat.{ℕ}
 use Prim.Native.String.{String}
 use mathlib.Core.List.{List, [], _∷_, _++_}
 use mathlib.Core.Bool.{Bool, true, false, cond, _||_}
-use Rattle.ascii.specs.Texts.{bytes, same}
+use Rattle.text.specs.Texts.{bytes, same}
 use Rattle.values.specs.declared.Sort.{Sort}
 use Rattle.values.specs.declared.Sort.the-variants.{Numeric, Timeout, YesNo, Protocol, TriggerName, Unread, Flexible}
 use Rattle.schema.specs.declared.Times.{Times}
 use Rattle.schema.specs.declared.Times.the-variants.{Once, OneTo, UpTo}
+use Rattle.lists.specs.Lists.{any}
 
--- an element, the elements that it holds, how many ("exactly once" each; 1 to n; at most n), and those that are "known but not carried" there
+-- an element, the elements that it holds, how many ("exactly once" each; 1 to n; at most n), and those that are "known but not carried"
+-- there
 pub record Parent : Type 0 where
   pub name : String
   pub carried : List String
@@ -35,7 +37,9 @@ parents =
     "ACTIONS" over ("ACTION_START_LOG" ∷ "ACTION_STOP_LOG" ∷ "ACTION_STOP_LOG_COMPLETELY" ∷ []) times UpTo 6
     bars ("ACTION_EXTERNAL_PULSE" ∷ "EXTERNAL_PULSE" ∷ "ACTION_ACTIVATE_AUTO_TRANSMIT_LIST" ∷ "ACTION_DEACTIVATE_AUTO_TRANSMIT_LIST" ∷ []) ∷
     "FILTERS" over ("MESSAGE_PASS" ∷ "MESSAGE_STOP" ∷ []) times UpTo 32
-    bars ("SIGNAL_PASS" ∷ "SIGNAL_STOP" ∷ "FLAG_PASS" ∷ "FLAG_STOP" ∷ "FLAGS_PASS" ∷ "FLAGS_STOP" ∷ "MESSAGE_COUNTING_PASS" ∷ "SIGNAL_COUNTING_PASS" ∷ "FLAG_COUNTING_PASS" ∷ []) ∷
+    bars
+    ("SIGNAL_PASS" ∷ "SIGNAL_STOP" ∷ "FLAG_PASS" ∷ "FLAG_STOP" ∷ "FLAGS_PASS" ∷ "FLAGS_STOP" ∷ "MESSAGE_COUNTING_PASS"
+    ∷ "SIGNAL_COUNTING_PASS" ∷ "FLAG_COUNTING_PASS" ∷ []) ∷
     "MESSAGE_PASS" over ("CHANNEL" ∷ []) times OneTo 5 bars [] ∷
     "MESSAGE_STOP" over ("CHANNEL" ∷ []) times OneTo 5 bars [] ∷
     []
@@ -57,43 +61,41 @@ infix 95 _to_
 abbrev pub _to_ : ℕ → ℕ → Sort
 lo to hi = Numeric lo hi hi
 
--- "msgid (upper), msgid_min, can_ext"; "Optional on MSG_ID and filters: can_fd (YES gives 7), protocol NONE or J1939 (J1939 gives 7), msg_field (unread)."
-abbrev pub identifier : List Rule
-identifier =
+-- "msgid (upper), msgid_min, can_ext"; "Optional on MSG_ID and filters: can_fd (YES gives 7), protocol NONE or J1939 (J1939 gives 7),
+-- msg_field (unread)."
+abbrev pub identifierRules : List Rule
+identifierRules =
     "msgid" must 0 to 536870911 ∷ "msgid_min" must 0 to 536870911 ∷ "can_ext" must YesNo 1
     ∷ "can_fd" may YesNo 0 ∷ "protocol" may Protocol ∷ "msg_field" may Unread ∷ []
 
 -- "Triggers: name; timeout 0 to 1,000,000,000 ms or -1; channel 0 to 4, except STARTUP."
-abbrev pub trigger : List Rule
-trigger = "name" must TriggerName ∷ "timeout" must Timeout ∷ "channel" must 0 to 4 ∷ []
+abbrev pub triggerRules : List Rule
+triggerRules = "name" must TriggerName ∷ "timeout" must Timeout ∷ "channel" must 0 to 4 ∷ []
 
 -- the elements that have attributes. "All others listed are required. No other element has attributes."
-pub record Element : Type 0 where
+pub record ElementRules : Type 0 where
   pub name : String
   pub rules : List Rule
 
 infix 80 _has_
-abbrev pub _has_ : String → List Rule → Element
+abbrev pub _has_ : String → List Rule → ElementRules
 n has r = record { name = n; rules = r }
 
-unfoldable pub elements : List Element
+unfoldable pub elements : List ElementRules
 elements =
     "MODE" has ("log_all" must YesNo 1 ∷ "fifo_mode" must YesNo 1 ∷ []) ∷
-    "PARAMETERS" has ("channel" must 0 to 4 ∷ "bitrate" must 1 to 1000000 ∷ "tseg1" must 1 to 255 ∷ "tseg2" must 1 to 255 ∷ "sjw" must 1 to 255 ∷ "silent" must YesNo 1
+    "PARAMETERS" has
+    ("channel" must 0 to 4 ∷ "bitrate" must 1 to 1000000 ∷ "tseg1" must 1 to 255 ∷ "tseg2" must 1 to 255 ∷ "sjw" must 1 to 255
+    ∷ "silent" must YesNo 1
     ∷ "bitrate_brs" may Flexible ∷ "tseg1_brs" may Flexible ∷ "tseg2_brs" may Flexible ∷ "sjw_brs" may Flexible ∷ "iso" may Flexible ∷ []) ∷
-    "TRIGGER_MSG_ID" has (trigger ++ identifier) ∷
-    "TRIGGER_MSG_DLC" has (trigger ++ ("dlc" must 0 to 8 ∷ "dlc_min" must 0 to 8 ∷ "can_fd" may YesNo 0 ∷ [])) ∷
-    "TRIGGER_MSG_ERROR_FRAME" has trigger ∷
+    "TRIGGER_MSG_ID" has (triggerRules ++ identifierRules) ∷
+    "TRIGGER_MSG_DLC" has (triggerRules ++ ("dlc" must 0 to 8 ∷ "dlc_min" must 0 to 8 ∷ "can_fd" may YesNo 0 ∷ [])) ∷
+    "TRIGGER_MSG_ERROR_FRAME" has triggerRules ∷
     "TRIGGER_STARTUP" has ("name" must TriggerName ∷ "timeout" must Timeout ∷ []) ∷
     "STATEMENT" has ("pretrigger" must Numeric 0 1000000000 0 ∷ "posttrigger" must 0 to 1000000000 ∷ []) ∷
-    "MESSAGE_PASS" has (identifier ++ ("dlc" may 0 to 8 ∷ "dlc_min" may 0 to 8 ∷ [])) ∷
-    "MESSAGE_STOP" has (identifier ++ ("dlc" may 0 to 8 ∷ "dlc_min" may 0 to 8 ∷ [])) ∷
+    "MESSAGE_PASS" has (identifierRules ++ ("dlc" may 0 to 8 ∷ "dlc_min" may 0 to 8 ∷ [])) ∷
+    "MESSAGE_STOP" has (identifierRules ++ ("dlc" may 0 to 8 ∷ "dlc_min" may 0 to 8 ∷ [])) ∷
     []
-
--- ---- what the tables say of a name
-unfoldable pub any : {X : Type 0} → (X → Bool) → List X → Bool
-any p [] = false
-any p (x ∷ xs) = p x || any p xs
 
 abbrev pub oneOf : List String → List ℕ → Bool
 oneOf names n = any (λ x. same n (bytes x)) names
@@ -102,7 +104,7 @@ unfoldable pub parentIn : List Parent → List ℕ → Parent
 parentIn [] n = "" over [] times UpTo 0 bars []
 parentIn (p ∷ ps) n = cond (same n (bytes (p .name))) p (parentIn ps n)
 
-unfoldable pub rulesIn : List Element → List ℕ → List Rule
+unfoldable pub rulesIn : List ElementRules → List ℕ → List Rule
 rulesIn [] n = []
 rulesIn (e ∷ es) n = cond (same n (bytes (e .name))) (e .rules) (rulesIn es n)
 

@@ -1,11 +1,17 @@
 // The known elements and their attributes.
 //
+// The root: how many of a kind may stand, and which attributes a kind requires. names: which element a name is, under its parent.
+// attributes: what an element asks of each of its attributes.
 // Promises: each answer is that of the paper's tables in specs/Schema.antt, for every input.
 // May not touch: files and trees. It knows names and values, not where they stand.
 ghost use mathlib.Core.Path.{_≡_};
 ghost use lib.ListN.{length};
 ghost use Rattle.schema.specs.Schema.{under, rulesOf};
-ghost use Rattle.schema.specs.Steps.{nameOf, orderOf, requiredIn};
+ghost use Rattle.schema.specs.SchemaCode.{kindName, orderOf, requiredIn};
+
+pub mod attributes;
+pub mod names;
+
 use values::Sort;
 
 // How many elements an element may hold: each of those that it carries once, or so many in all.
@@ -53,7 +59,7 @@ pub struct Asked {
 
 // How many elements an element of the kind may hold.
 pub fn times_of(kind: Kind) -> Times
-    ensures { λ r. ⌜ r ≡ under (nameOf kind) .times ⌝ }
+    ensures { λ r. ⌜ r ≡ under (kindName kind) .times ⌝ }
 {
     match kind {
         Kind::File | Kind::Kvaser | Kind::Settings | Kind::TriggerBlock | Kind::Statement =>
@@ -68,7 +74,7 @@ pub fn times_of(kind: Kind) -> Times
 
 // How many names an element of the kind carries.
 pub fn held_by(kind: Kind) -> usize
-    ensures { λ r. ⌜ r ≡ length (under (nameOf kind) .carried) ⌝ }
+    ensures { λ r. ⌜ r ≡ length (under (kindName kind) .carried) ⌝ }
 {
     match kind {
         Kind::Kvaser => 5,
@@ -100,7 +106,7 @@ pub fn order_of(kind: Kind) -> usize
 
 // How many attributes an element of the kind must have.
 pub fn required_of(kind: Kind) -> usize
-    ensures { λ r. ⌜ r ≡ requiredIn (rulesOf (nameOf kind)) ⌝ }
+    ensures { λ r. ⌜ r ≡ requiredIn (rulesOf (kindName kind)) ⌝ }
 {
     match kind {
         Kind::Parameters | Kind::MsgId => 6,

@@ -7,7 +7,7 @@
 ghost use mathlib.Core.Path.{_≡_};
 ghost use Prim.Native.Nat.{_≤_, _<_};
 ghost use lib.ListN.{length};
-use shape_rules::Shape;
+use shape::Shape;
 
 const STDIN: i32 = 0;
 

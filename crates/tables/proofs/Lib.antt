@@ -1,3 +1,17 @@
--- Turns: one turn of each loop. Once: the answer is the only one of its contract.
+-- Turns, RowsTurns: one turn of each loop. RowsLaws, RowsParts: rows that are filled one by one. Once: the answer is the only one of its contract.
+-- `Laws` says that what is told of a file without faults is its document's tables, and its first fault of 9 and 10; the others are its parts.
 pub mod Turns
 pub mod Once
+pub mod RowsTurns
+pub mod RowsLaws
+pub mod RowsParts
+pub mod Readings
+pub mod Wanted
+pub mod Nested
+pub mod Entries
+pub mod Counts
+pub mod Tells
+pub mod Faults
+pub mod Filters
+pub mod Drafts
+pub mod Laws

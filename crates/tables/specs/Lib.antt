@@ -1,3 +1,3 @@
--- `Tables` is what a reader must believe; `Steps` serves the contracts.
-pub mod Tables
-pub mod Steps
+-- What the contracts cite: code-shaped, tied to crates/file_rules/specs/Tables.antt by proofs/Laws.antt.
+pub mod TablesCode
+pub mod RowsCode

@@ -1,25 +1,33 @@
-// The tables of a document: what its known elements say together, or the first of its refusals up to 10.
+// What the known elements of a file say together, or the first of its refusals up to 10.
 //
-// Promises: `read_tables` answers every file, by value; specs/Tables.antt says what the tables of a document are and which faults it has.
+// rows: what the elements say, one after the other. The root judges 9 and 10.
+// Promises: `read_tables` answers every file, by value; proofs/Laws.antt, `reads-well`: for a file without faults these are the tables that
+// crates/file_rules/specs/Tables.antt says, and so is its first fault of 9 and 10.
 // May not touch: expressions, and the words of a plan.
 ghost use mathlib.Core.Path.{_≡_};
 ghost use mathlib.Core.List.{[]};
 ghost use mathlib.Core.Bool.{false};
 ghost use Prim.Native.Nat.{_≤_, min};
 ghost use lib.ListN.{length, getD, take, drop};
-ghost use Rattle.ascii.specs.Texts.{same};
-ghost use Rattle.lexer.specs.Lex.{spans};
-ghost use Rattle.schema.specs.Schema.{any};
-ghost use Rattle.element.specs.Element.{goodOf};
-ghost use Rattle.element.specs.Steps.{is, lacksFirst};
-ghost use Rattle.telling.specs.Steps.{entriesOf};
-ghost use Rattle.tables.specs.Steps.{refused, usedFrom, nameFault, firstWhere, busFault, isBeyond, channelFault, tableFault, Tabled};
-use document_rules::Entry;
-use document_rules::Index;
+ghost use Rattle.text.specs.Texts.{same};
+ghost use Rattle.grammar.specs.Lex.{spans};
+ghost use Rattle.file_rules.specs.Element.{goodOf};
+ghost use Rattle.element.specs.ElementCode.{isKind, lacksFirst};
+ghost use Rattle.tables.specs.RowsCode.{entriesOf};
+ghost use Rattle.tables.specs.TablesCode.{refusedAt, usedFrom, nameFault, firstWhere, busFault, isBeyond, channelFault, tableFault, Tabled};
+ghost use Rattle.lists.specs.Lists.{any};
+
+pub mod rows;
+
+use crate::rows::Head;
+use crate::rows::Names;
+use crate::rows::Told;
+use document::Entry;
+use document::Index;
+use element::fields;
+use element::triggers;
 use schema::Kind;
-use telling::Head;
-use telling::Names;
-use telling::Told;
+use text::texts;
 use values::Worth;
 
 // A refusal's number and place; number 0 where there is none.
@@ -34,7 +42,7 @@ pub struct Tables {
 }
 
 fn no_refusal() -> Refusal
-    ensures { λ r. ⌜ r ≡ refused 0 0 ⌝ }
+    ensures { λ r. ⌜ r ≡ refusedAt 0 0 ⌝ }
 {
     Refusal {
         number: 0,
@@ -57,7 +65,7 @@ fn is_same(file: &[u8], start: usize, end: usize, from: usize, to: usize) -> boo
     let a = least(start, e);
     let k = least(to, n);
     let c = least(from, k);
-    ascii::same_text(&file[a..e], &file[c..k])
+    texts::same_text(&file[a..e], &file[c..k])
 }
 
 // Is the part of the file from a start up to an end one of the names?
@@ -113,7 +121,7 @@ fn name_fault(file: &[u8], names: Names) -> Refusal
 }
 
 fn is_bus(kind: Kind) -> bool
-    ensures { λ r. ⌜ r ≡ is kind "CAN_BUS" ⌝ }
+    ensures { λ r. ⌜ r ≡ isKind kind "CAN_BUS" ⌝ }
 {
     match kind {
         Kind::CanBus => true,
@@ -129,7 +137,7 @@ fn entry_count(index: Index) -> usize
 
 // 10 at the first CAN_BUS.
 fn first_bus(index: Index) -> Refusal
-    ensures { λ r. ⌜ r ≡ firstWhere (λ e. is (e .kind) "CAN_BUS") (entriesOf index) ⌝ }
+    ensures { λ r. ⌜ r ≡ firstWhere (λ e. isKind (e .kind) "CAN_BUS") (entriesOf index) ⌝ }
 {
     let n = entry_count(index);
     let entries = index.entries;
@@ -199,11 +207,11 @@ fn is_beyond(file: &[u8], channels: u32, entry: Entry) -> bool
     let place = entry.place;
     match kind {
         Kind::Channel => {
-            let w = picking::channel_number(file, place);
+            let w = fields::channel_number(file, place);
             channels <= good_of(w)
         }
         Kind::MsgId | Kind::MsgDlc | Kind::ErrorFrame => channels
-            <= reading::number_at(file, place, kind, 2),
+            <= triggers::number_at(file, place, kind, 2),
         _ => false,
     }
 }
@@ -251,7 +259,7 @@ pub fn read_tables(file: &[u8]) -> Tables
     ensures { λ r. ⌜ Tabled (now (file .entry)) r ⌝ }
 {
     let index = document::read_index(file);
-    let told = telling::tell(file, index);
+    let told = rows::tell(file, index);
     if index.number != 0 {
         let first = Refusal {
             number: index.number,

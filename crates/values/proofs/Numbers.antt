@@ -11,10 +11,10 @@ use lib.Dec.{leb, ltb, eqb}
 use lib.ListN.{length, getD, take, drop, length-drop, drop-of-length-le}
 use lib.Seq.{drop-cons, take-all}
 use lib.Pow.{pow-add}
-use Rattle.ascii.specs.Texts.{bytes, same}
-use Rattle.ascii.proofs.Spans.{drop-one}
-use Rattle.ascii.proofs.Equal.{other-length}
-use Rattle.values.specs.Values.{digit, digitsFrom, digits, number}
+use Rattle.text.specs.Texts.{bytes, same}
+use Rattle.text.proofs.Spans.{drop-one}
+use Rattle.text.proofs.Equal.{other-length}
+use Rattle.values.specs.Values.{digit, digitsFrom, digits, numberSpelt}
 use Rattle.values.specs.declared.Number.{Number}
 use Rattle.values.specs.declared.Number.the-variants.{Value, Nothing}
 
@@ -53,7 +53,8 @@ is-lower b h k = rw (above 48 57 b (omega arith) (omega arith), above 65 70 b (o
 
 pub digit-top : (b : ℕ) → 103 ≤ b → 16 ≡ digit b
 unfolding digit
-digit-top b h = rw (above 48 57 b (omega arith) (omega arith), above 65 70 b (omega arith) (omega arith), above 97 102 b (omega arith) (omega arith))
+digit-top b h =
+    rw (above 48 57 b (omega arith) (omega arith), above 65 70 b (omega arith) (omega arith), above 97 102 b (omega arith) (omega arith))
 
 -- one digit more
 pub digits-more : (base v d : ℕ) (s : List ℕ) (i : ℕ) → i < length s → d ≡ digit (getD s i 0) → d < base
@@ -61,7 +62,8 @@ pub digits-more : (base v d : ℕ) (s : List ℕ) (i : ℕ) → i < length s →
 unfolding digitsFrom
 digits-more base v d s i h e k = ap (digitsFrom base v) (drop-one s i h) ∙ rw (e, lt-ltb _ _ (rw e at k), digitsFrom)
 
-pub digits-bad : (base v d : ℕ) (s : List ℕ) (i : ℕ) → i < length s → d ≡ digit (getD s i 0) → base ≤ d → digitsFrom base v (drop i s) ≡ Nothing
+pub digits-bad : (base v d : ℕ) (s : List ℕ) (i : ℕ) → i < length s → d ≡ digit (getD s i 0) → base ≤ d
+    → digitsFrom base v (drop i s) ≡ Nothing
 unfolding digitsFrom
 digits-bad base v d s i h e k = ap (digitsFrom base v) (drop-one s i h) ∙ rw (← e, le-ltb _ _ k, digitsFrom)
 
@@ -80,15 +82,15 @@ pub step-fits : (base v d i : ℕ) → base ≤ 16 → i < 10 → v < 16 ^ i →
 step-fits base v d i h k l m = fits-ten (v * base + d) (i + 1) (omega arith) (one-more base v d i h l m)
 
 -- a text with no room for `0x`
-pub number-short : (s : List ℕ) → length s < 2 → number s ≡ digits 10 10 s
-unfolding number bytes
+pub number-short : (s : List ℕ) → length s < 2 → numberSpelt s ≡ digits 10 10 s
+unfolding numberSpelt bytes
 number-short s h = rw (take-all 2 s (omega arith), other-length s (bytes "0x") (λ e. let l : length s ≡ 2 = e in omega arith))
 
 module _ (s : List ℕ) (r : Bool) (n : Number) (h : 2 ≤ length s) (e : r ≡ same (take 2 s) (bytes "0x")) where
-  pub number-hex : r ≡ true → n ≡ digits 16 8 (take (length s - 2) (drop 2 s)) → n ≡ number s
-  unfolding number
+  pub number-hex : r ≡ true → n ≡ digits 16 8 (take (length s - 2) (drop 2 s)) → n ≡ numberSpelt s
+  unfolding numberSpelt
   number-hex t q = q ∙ rw (sym e ∙ t) (ap (digits 16 8) (take-all (length s - 2) (drop 2 s) (omega (arith, length-drop 2 s))))
 
-  pub number-plain : r ≡ false → n ≡ digits 10 10 s → n ≡ number s
-  unfolding number
+  pub number-plain : r ≡ false → n ≡ digits 10 10 s → n ≡ numberSpelt s
+  unfolding numberSpelt
   number-plain t q = q ∙ rw (sym e ∙ t)

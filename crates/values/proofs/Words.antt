@@ -5,11 +5,12 @@ use mathlib.Core.List.{List}
 use mathlib.Core.Bool.{Bool, true, false}
 use borrow.Author.Tests.{le-leb, lt-leb}
 use lib.ListN.{length, getD, drop, drop-of-length-le}
-use Rattle.ascii.proofs.Spans.{drop-one}
-use Rattle.values.specs.Values.{all, ranged}
+use Rattle.text.proofs.Spans.{drop-one}
+use Rattle.values.specs.Values.{ranged}
 use Rattle.values.specs.declared.Number.{Number}
 use Rattle.values.specs.declared.Number.the-variants.{Value, Nothing}
 use Rattle.values.specs.declared.Worth.the-variants.{Good, Bad, NotCarried}
+use Rattle.lists.specs.Lists.{all}
 
 module _ (p : ℕ → Bool) (s : List ℕ) (i : ℕ) where
   pub all-more : (r : Bool) → i < length s → r ≡ p (getD s i 0) → r ≡ true → all p (drop i s) ≡ all p (drop (i + 1) s)

@@ -1,11 +1,16 @@
-// Values of attributes and texts: what they are (numbers, timeouts, words, trigger names), and how a number is read.
+// How values are spelt and what they are worth: numbers, timeouts, words, trigger names.
 //
-// Promises: a number is read to its last byte or not at all; each answer is the paper's, for every text.
+// The root reads a number; sorts: what a value is worth where its attribute asks for a sort.
+// Promises: a value is read to its last byte or not at all; each answer is the paper's (specs/Values.antt), for every text.
 // May not touch: where a value stands, and which attribute asks for which value.
 ghost use mathlib.Core.Path.{_≡_};
 ghost use Prim.Native.Nat.{_≤_};
 ghost use lib.ListN.{length};
-ghost use Rattle.values.specs.Values.{digit, digitsFrom, digits, number};
+ghost use Rattle.values.specs.Values.{digit, digitsFrom, digits, numberSpelt};
+
+pub mod sorts;
+
+use text::texts;
 
 pub enum Number {
     Value(u64),
@@ -85,13 +90,13 @@ fn some_digits(spelt: &[u8], base: u64, n: usize) -> Number
 }
 
 // 1 to 10 decimal digits, or `0x` and 1 to 8 hex digits.
-pub fn number_of(text: &[u8]) -> Number
-    ensures { λ r. ⌜ r ≡ number (now (text .entry)) ⌝ }
+pub(crate) fn number_of(text: &[u8]) -> Number
+    ensures { λ r. ⌜ r ≡ numberSpelt (now (text .entry)) ⌝ }
 {
     if text.len() < 2 {
         return some_digits(text, 10, 10);
     }
-    if ascii::same_text(&text[0..2], b"0x") {
+    if texts::same_text(&text[0..2], b"0x") {
         return some_digits(&text[2..], 16, 8);
     }
     some_digits(text, 10, 10)

@@ -6,11 +6,12 @@ ghost use mathlib.Core.Path.{_≡_};
 ghost use Prim.Native.Nat.{_≤_, min};
 ghost use lib.ListN.{length, take};
 ghost use Rattle.records.specs.Records.{triggerWords, filterWords};
-ghost use Rattle.loader.specs.Plan.{row};
-ghost use Rattle.writer.specs.Sheet.{lineWords, sheetWords, Writes};
-ghost use Rattle.writer.specs.Parts.{Wrote, headWords};
+ghost use Rattle.writer.specs.SheetCode.{lineWords, sheetWords, Writes};
+ghost use Rattle.writer.specs.PartsCode.{Wrote, headWords};
+ghost use Rattle.lists.specs.Lists.{gathered};
 use records::Filter;
 use records::Trigger;
+use records::words;
 
 pub struct Triggers {
     pub rows: [Trigger; 32],
@@ -105,7 +106,7 @@ fn line_size(line: Line) -> usize
 }
 
 fn lines_size(lines: Lines) -> usize
-    ensures { λ r. ⌜ (r ≡ length (row lineWords (take (lines .count) (lines .rows)))) × (r ≤ 1168) ⌝ }
+    ensures { λ r. ⌜ (r ≡ length (gathered lineWords (take (lines .count) (lines .rows)))) × (r ≤ 1168) ⌝ }
 {
     let rows = lines.rows;
     let n = line_count(lines);
@@ -143,15 +144,15 @@ fn write_words(from: &[u32], out: &mut [u32]) -> usize
 
 // The triggers, each into what remains of the plan behind the one before.
 fn write_triggers(triggers: Triggers, out: &mut [u32]) -> usize
-    requires { ⌜ length (row triggerWords (take (triggers .count) (triggers .rows))) ≤ length (now out) ⌝ }
-    ensures { λ r. ⌜ Wrote (row triggerWords (take (triggers .count) (triggers .rows))) (now (out .entry)) r (now (out .exit)) ⌝ }
+    requires { ⌜ length (gathered triggerWords (take (triggers .count) (triggers .rows))) ≤ length (now out) ⌝ }
+    ensures { λ r. ⌜ Wrote (gathered triggerWords (take (triggers .count) (triggers .rows))) (now (out .entry)) r (now (out .exit)) ⌝ }
 {
     let rows = triggers.rows;
     let n = trigger_count(triggers);
     let mut at = 0;
     let mut i = 0;
     while i < n {
-        let words = record_words::trigger_words(rows[i]);
+        let words = words::trigger_words(rows[i]);
         at += write_words(&words[..], &mut out[at..]);
         i += 1;
     }
@@ -160,15 +161,15 @@ fn write_triggers(triggers: Triggers, out: &mut [u32]) -> usize
 
 // The filters, in the same way.
 fn write_filters(filters: Filters, out: &mut [u32]) -> usize
-    requires { ⌜ length (row filterWords (take (filters .count) (filters .rows))) ≤ length (now out) ⌝ }
-    ensures { λ r. ⌜ Wrote (row filterWords (take (filters .count) (filters .rows))) (now (out .entry)) r (now (out .exit)) ⌝ }
+    requires { ⌜ length (gathered filterWords (take (filters .count) (filters .rows))) ≤ length (now out) ⌝ }
+    ensures { λ r. ⌜ Wrote (gathered filterWords (take (filters .count) (filters .rows))) (now (out .entry)) r (now (out .exit)) ⌝ }
 {
     let rows = filters.rows;
     let n = filter_count(filters);
     let mut at = 0;
     let mut i = 0;
     while i < n {
-        let words = record_words::filter_words(rows[i]);
+        let words = words::filter_words(rows[i]);
         at += write_words(&words[..], &mut out[at..]);
         i += 1;
     }
@@ -194,8 +195,8 @@ fn write_line(line: Line, out: &mut [u32]) -> usize
 
 // The statements, each into what remains of the plan behind the one before.
 fn write_lines(lines: Lines, out: &mut [u32]) -> usize
-    requires { ⌜ length (row lineWords (take (lines .count) (lines .rows))) ≤ length (now out) ⌝ }
-    ensures { λ r. ⌜ Wrote (row lineWords (take (lines .count) (lines .rows))) (now (out .entry)) r (now (out .exit)) ⌝ }
+    requires { ⌜ length (gathered lineWords (take (lines .count) (lines .rows))) ≤ length (now out) ⌝ }
+    ensures { λ r. ⌜ Wrote (gathered lineWords (take (lines .count) (lines .rows))) (now (out .entry)) r (now (out .exit)) ⌝ }
 {
     let rows = lines.rows;
     let n = line_count(lines);

@@ -1,19 +1,26 @@
-// The shape of a configuration file: the first pass of the reader.
+// The first pass over a file: is it of good shape (refusals 1 and 2)?
 //
-// Promises: `read_shape` answers every input: the file is too long, or it is well shaped as shape_rules/specs/Shape.antt says it,
+// tags: start and end tags. comments: comments. The root reads elements, and the whole file.
+// Promises: `read_shape` answers every input: the file is too long, or it is well shaped as crates/shape/specs/Shape.antt says it,
 // or how many of its bytes some well-shaped text starts with.
 // May not touch: what an element means. It knows no element's name, and keeps nothing of what it reads.
 ghost use mathlib.Core.Path.{_≡_};
 ghost use Prim.Native.Nat.{_<_};
 ghost use lib.ListN.{length};
-ghost use Rattle.shape_rules.specs.Machine.{at, goes, start, decl, mark, markXm, before, after, idle};
-ghost use Rattle.shape_rules.specs.Reads.{Reads, Marks, inLt, inText, ReadsElement, one, Outside, asShape};
-ghost use Rattle.shape_rules.specs.Shape.{Shaped};
-use shape_rules::Mark;
-use shape_rules::Outer;
-use shape_rules::Shape;
-use shape_rules::Step;
-use shape_rules::Tag;
+ghost use Rattle.shape.specs.MachineCode.{at, goes, start, decl, mark, markXm, before, after, idle};
+ghost use Rattle.shape.specs.ReadsCode.{Reads, Marks, inLt, inText, ReadsElement, single, Outside, asShape};
+ghost use Rattle.shape.specs.Shape.{Shaped};
+
+pub mod comments;
+pub mod tags;
+
+use shape::Mark;
+use shape::Outer;
+use shape::Shape;
+use shape::Step;
+use shape::Tag;
+use text::letters;
+use text::runs;
 
 // The most bytes that a file may have.
 const LONGEST: usize = 32768;
@@ -28,7 +35,7 @@ fn after_lt(file: &[u8], from: usize) -> Mark
     if from < file.len() {
         let b = file[from];
         if b == b'!' {
-            return match remarks::comment(file, from + 1) {
+            return match comments::comment(file, from + 1) {
                 Step::At(end) => Mark::Again(end),
                 Step::Bad(p) => Mark::Stop(p),
             };
@@ -47,8 +54,8 @@ fn after_lt(file: &[u8], from: usize) -> Mark
 fn markup(file: &[u8], from: usize) -> Mark
     ensures { λ r. ⌜ Marks inText (now (file .entry)) from r ⌝ }
 {
-    let end = text_runs::text_end(file, from);
-    match shape_rules::expect(file, end, b'<') {
+    let end = runs::text_end(file, from);
+    match shape::expect(file, end, b'<') {
         Step::At(next) => after_lt(file, next),
         Step::Bad(p) => Mark::Stop(p),
     }
@@ -88,10 +95,10 @@ fn element(file: &[u8], from: usize, left: usize) -> Step
 
 // Behind `<?`: to behind `?>`.
 fn declaration(file: &[u8], from: usize) -> Step
-    ensures { λ r. ⌜ Reads (one (decl mark)) (one (idle before)) (now (file .entry)) from r ⌝ }
+    ensures { λ r. ⌜ Reads (single (decl mark)) (single (idle before)) (now (file .entry)) from r ⌝ }
 {
-    match shape_rules::expect(file, from, b'x') {
-        Step::At(second) => match shape_rules::expect(file, second, b'm') {
+    match shape::expect(file, from, b'x') {
+        Step::At(second) => match shape::expect(file, second, b'm') {
             Step::At(third) => declared_text(file, third),
             Step::Bad(p) => Step::Bad(p),
         },
@@ -101,13 +108,13 @@ fn declaration(file: &[u8], from: usize) -> Step
 
 // Behind `<?xm`: to behind `?>`.
 fn declared_text(file: &[u8], from: usize) -> Step
-    ensures { λ r. ⌜ Reads (one (decl markXm)) (one (idle before)) (now (file .entry)) from r ⌝ }
+    ensures { λ r. ⌜ Reads (single (decl markXm)) (single (idle before)) (now (file .entry)) from r ⌝ }
 {
-    match shape_rules::expect(file, from, b'l') {
+    match shape::expect(file, from, b'l') {
         Step::At(inner) => {
-            let end = text_runs::decl_end(file, inner);
-            match shape_rules::expect(file, end, b'?') {
-                Step::At(last) => shape_rules::expect(file, last, b'>'),
+            let end = runs::decl_end(file, inner);
+            match shape::expect(file, end, b'?') {
+                Step::At(last) => shape::expect(file, last, b'>'),
                 Step::Bad(p) => Step::Bad(p),
             }
         }
@@ -148,7 +155,7 @@ fn misc(file: &[u8], from: usize) -> Outer
             }
             let second = file[next + 1];
             if second == b'!' {
-                match remarks::comment(file, next + 2) {
+                match comments::comment(file, next + 2) {
                     Step::At(end) => here = end,
                     Step::Bad(p) => return Outer::Halt(p),
                 }

@@ -1,3 +1,4 @@
+-- Made by tools/prove.py from answers/code_ok.txt: change that file, not this one.
 -- `code_ok` meets its contract. The loop's invariant: from the words that are left and the height now, the height comes out as from all and 0.
 use Rattle.code.proofs.code_ok.Statement.{statement}
 use Rattle.code.proofs.code_ok.Tie as tie

@@ -1,3 +1,4 @@
+-- Made by tools/prove.py from answers/rise.txt: change that file, not this one.
 -- `rise` meets its contract: one law for each kind of word.
 use borrow.Author.Needs.{needs}
 use Rattle.code.proofs.rise.Statement.{statement}

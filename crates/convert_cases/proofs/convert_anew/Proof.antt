@@ -1,3 +1,4 @@
+-- Made by tools/prove.py from answers/convert_anew.txt: change that file, not this one.
 -- `convert_anew` touches no word out of range. The loop's invariant: the buffer keeps its length.
 use Rattle.convert_cases.proofs.convert_anew.Statement.{statement}
 use Rattle.convert_cases.proofs.convert_anew.Tie as tie

@@ -1,3 +1,4 @@
+-- Made by tools/prove.py from answers/edit.txt: change that file, not this one.
 -- `edit` touches no byte out of range.
 use borrow.Author.Needs.{needs}
 use Rattle.convert_cases.proofs.edit.Statement.{statement}

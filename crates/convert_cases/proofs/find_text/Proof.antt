@@ -1,3 +1,4 @@
+-- Made by tools/prove.py from answers/find_text.txt: change that file, not this one.
 -- `find_text` touches no byte out of range, and answers an offset of the text.
 use Rattle.convert_cases.proofs.find_text.Statement.{statement}
 use Rattle.convert_cases.proofs.find_text.Tie as tie

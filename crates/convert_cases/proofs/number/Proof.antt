@@ -1,3 +1,4 @@
+-- Made by tools/prove.py from answers/number.txt: change that file, not this one.
 -- `number` ends, and stays within the room.
 use Rattle.convert_cases.proofs.number.Statement.{statement}
 use Rattle.convert_cases.proofs.number.Tie as tie

@@ -1,3 +1,4 @@
+-- Made by tools/prove.py from answers/prefixes.txt: change that file, not this one.
 -- `prefixes` touches no byte out of range.
 use Rattle.convert_cases.proofs.prefixes.Statement.{statement}
 use Rattle.convert_cases.proofs.prefixes.Tie as tie

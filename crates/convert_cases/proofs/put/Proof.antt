@@ -1,3 +1,4 @@
+-- Made by tools/prove.py from answers/put.txt: change that file, not this one.
 -- `put` touches no byte out of range.
 use borrow.Author.Needs.{needs}
 use Rattle.convert_cases.proofs.put.Statement.{statement}

@@ -1,3 +1,4 @@
+-- Made by tools/prove.py from answers/run.txt: change that file, not this one.
 -- `run` touches no byte out of range.
 use borrow.Author.Needs.{needs}
 use Rattle.convert_cases.proofs.run.Statement.{statement}

@@ -1,3 +1,4 @@
+-- Made by tools/prove.py from answers/say_case.txt: change that file, not this one.
 -- `say_case` touches no byte out of range.
 use borrow.Author.Needs.{needs}
 use Rattle.convert_cases.proofs.say_case.Statement.{statement}

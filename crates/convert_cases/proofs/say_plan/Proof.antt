@@ -1,3 +1,4 @@
+-- Made by tools/prove.py from answers/say_plan.txt: change that file, not this one.
 -- `say_plan` touches no word out of range.
 use borrow.Author.Needs.{needs}
 use Rattle.convert_cases.proofs.say_plan.Statement.{statement}

@@ -1,3 +1,4 @@
+-- Made by tools/prove.py from answers/splice.txt: change that file, not this one.
 -- `splice` touches no byte out of range, and answers how many bytes it wrote.
 use borrow.Author.Needs.{needs}
 use Rattle.convert_cases.proofs.splice.Statement.{statement}

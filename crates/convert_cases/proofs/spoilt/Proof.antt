@@ -1,3 +1,4 @@
+-- Made by tools/prove.py from answers/spoilt.txt: change that file, not this one.
 -- `spoilt` touches no word out of range.
 use Rattle.convert_cases.proofs.spoilt.Statement.{statement}
 use Rattle.convert_cases.proofs.spoilt.Tie as tie

@@ -1,3 +1,4 @@
+-- Made by tools/prove.py from answers/convert.txt: change that file, not this one.
 -- `converter::convert` meets its contract: each way to an answer is one of its cases.
 use borrow.Author.Needs.{needs}
 use Rattle.converter.proofs.convert.Statement.{statement}

@@ -1,3 +1,4 @@
+-- Made by tools/prove.py from answers/steamfiddle_convert.txt: change that file, not this one.
 -- `steamfiddle_convert` meets its contract: the number says what `convert` answered, and no place is too large for it.
 use borrow.Author.Needs.{needs}
 use Rattle.converter_c.proofs.steamfiddle_convert.Statement.{statement}

@@ -1,3 +1,4 @@
+-- Made by tools/prove.py from answers/+visit+visit_inside.txt: change that file, not this one.
 -- `document::visit` and `document::visit_inside`, which call each other, meet their contracts. The depth that is left falls; the loop's invariant is `Inner`.
 use Prim.Native.Nat.{ℕ, _<_}
 use borrow.Fn.Kinds.{In}
@@ -21,20 +22,20 @@ use Rattle.document.proofs.none_seen.Reads as none-seen-reads
 use Rattle.document.proofs.pass.Reads as pass-reads
 use Rattle.document.proofs.refused.Reads as refused-reads
 use Rattle.document.proofs.tag_fault_at.Reads as tag-fault-at-reads
-use Rattle.runs.proofs.blanks_end.Reads as blanks-end-reads
-use Rattle.tag_walk.proofs.content_at.Reads as content-at-reads
-use Rattle.walk.proofs.item_at.Reads as item-at-reads
+use Rattle.text.proofs.runs.blanks_end.Reads as blanks-end-reads
+use Rattle.walk.proofs.tags.content_at.Reads as content-at-reads
+use Rattle.walk.proofs.items.item_at.Reads as item-at-reads
 use Rattle.document.proofs.+visit+visit_inside.{statement}
 use Rattle.document.proofs.+visit+visit_inside.Tie.{close}
 use Prim.Native.Nat.{_-_, _+_, _*_}
 use mathlib.Core.Path.{_≡_, refl, sym, ap, _∙_}
 use native.Mathlib.Omega.{arith}
 use lib.ListN.{length}
-use Rattle.walk_rules.specs.Steps.{contentAt, skipped}
-use Rattle.walk_rules.proofs.Bounds.{item-from, skipped-bounds}
-use Rattle.document_rules.specs.Steps.{Found, visitBody, visitFrom, found}
-use Rattle.document_rules.proofs.Turns.{visit-past, visit-fault, visit-good, tag-fault-kept, stray-fault, no-fault, refused-same}
-use Rattle.document_rules.proofs.Insides.{ready-deep, ready-inside, inside-moved, Inner, inner-start, empty-leaves, broken-none, inner-over, inner-broken, inner-text, inner-remark, child-ready, inner-child, inner-leaves}
+use Rattle.walk.specs.WalkCode.{contentAt, skipped}
+use Rattle.walk.proofs.Bounds.{item-from, skipped-bounds}
+use Rattle.document.specs.DocumentCode.{FoundSoFar, visitBody, visitFrom, found}
+use Rattle.document.proofs.Turns.{visit-past, visit-fault, visit-good, tag-fault-kept, stray-fault, no-fault, refused-same}
+use Rattle.document.proofs.Insides.{ready-deep, ready-inside, inside-moved, Inner, inner-start, empty-leaves, broken-none, inner-over, inner-broken, inner-text, inner-remark, child-ready, inner-child, inner-leaves}
 use borrow.Author.Needs.{needs}
 
 abbrev μ-visit : Measures 2 visit-kinds.ps ℕ
@@ -1183,7 +1184,7 @@ visit-inside-returns : (t : ℕ) → visit-inside-lts.Need-returns (
   mark-reads.Asked,
   mark-reads.Learnt,
 ) (visit-inside-at t) visit-inside.Post visit-inside-Inv-loop visit-inside-μ-loop
-visit-inside-returns t c = inner-leaves (c .before .before .before .before .before .before .before .before .before .before .before .before .before .before .before .before .args .file .now) _ _ _ (c .before .before .before .before .before .before .before .loop .all .at) _ _ _ _ (c .before .before .before .before .before .before .before .loop .inv .0) (c .before .before .before .before .before .if1 .taken) _ _ _ _ (sym (c .before .before .e2 .given .1) ∙ c .before .before .before .before .item-at .ensures) (c .close3 .ensures .0 (c .before .before .before .before .before .before .before .loop .marks)) (c .close3 .ensures .1) (c .close3 .ensures .2) (ap (λ (r : Found). visitBody (visitFrom (c .before .before .before .before .before .before .before .before .before .before .before .before .before .before .before .before .args .file .now) (c .before .before .before .before .before .before .before .before .before .before .before .before .before .before .before .before .args .left)) (c .before .before .before .before .before .before .before .before .before .before .before .before .before .before .before .before .args .file .now) (c .before .before .before .before .before .before .before .before .before .before .before .before .before .before .before .before .args .kind) r (contentAt (c .before .before .before .before .before .before .before .before .before .before .before .before .before .before .before .before .args .file .now) (c .before .before .before .before .before .before .before .before .before .before .before .before .before .before .before .before .args .entered .at))) (c .before .before .before .before .before .before .before .before .before .move-to .ensures .0 (c .before .before .before .before .before .before .before .before .before .before .before .before .before .before .before .before .args .marks .now)))
+visit-inside-returns t c = inner-leaves (c .before .before .before .before .before .before .before .before .before .before .before .before .before .before .before .before .args .file .now) _ _ _ (c .before .before .before .before .before .before .before .loop .all .at) _ _ _ _ (c .before .before .before .before .before .before .before .loop .inv .0) (c .before .before .before .before .before .if1 .taken) _ _ _ _ (sym (c .before .before .e2 .given .1) ∙ c .before .before .before .before .item-at .ensures) (c .close3 .ensures .0 (c .before .before .before .before .before .before .before .loop .marks)) (c .close3 .ensures .1) (c .close3 .ensures .2) (ap (λ (r : FoundSoFar). visitBody (visitFrom (c .before .before .before .before .before .before .before .before .before .before .before .before .before .before .before .before .args .file .now) (c .before .before .before .before .before .before .before .before .before .before .before .before .before .before .before .before .args .left)) (c .before .before .before .before .before .before .before .before .before .before .before .before .before .before .before .before .args .file .now) (c .before .before .before .before .before .before .before .before .before .before .before .before .before .before .before .before .args .kind) r (contentAt (c .before .before .before .before .before .before .before .before .before .before .before .before .before .before .before .before .args .file .now) (c .before .before .before .before .before .before .before .before .before .before .before .before .before .before .before .before .args .entered .at))) (c .before .before .before .before .before .before .before .before .before .move-to .ensures .0 (c .before .before .before .before .before .before .before .before .before .before .before .before .before .before .before .before .args .marks .now)))
 
 visit-inside-enum-told-3 : (t : ℕ) → visit-inside-lts.Need-enum-told-3 (
   content-at-reads.Asked,

@@ -1,13 +1,14 @@
+-- Made by tools/prove.py from answers/child_at.txt: change that file, not this one.
 -- `document::child_at` meets its contract.
 use borrow.Author.Needs.{needs}
 use Rattle.document.proofs.child_at.Statement.{statement}
 use Rattle.document.proofs.child_at.Tie as tie
 use mathlib.Core.Path.{ap, _∙_}
 use native.Mathlib.Omega.{arith}
-use Rattle.walk_rules.proofs.Bounds.{name-bounds}
-use Rattle.shape_rules.proofs.Slices.{slice-part}
-use Rattle.schema.specs.Steps.{kindUnder}
-use Rattle.document_rules.specs.Steps.{childAt}
+use Rattle.walk.proofs.Bounds.{name-bounds}
+use Rattle.shape.proofs.Slices.{slice-part}
+use Rattle.schema.specs.SchemaCode.{kindUnder}
+use Rattle.document.specs.DocumentCode.{childAt}
 
 name-of-requires : tie.Need-name-of-requires
 name-of-requires c κs = search needs

@@ -1,10 +1,11 @@
+-- Made by tools/prove.py from answers/enter.txt: change that file, not this one.
 -- `document::enter` meets its contract.
 use borrow.Author.Needs.{needs}
 use Rattle.document.proofs.enter.Statement.{statement}
 use Rattle.document.proofs.enter.Tie as tie
 use mathlib.Core.Path.{refl}
 use native.Mathlib.Omega.{arith}
-use Rattle.document_rules.proofs.Marks.{number-low, enters, enters-none}
+use Rattle.document.proofs.Marks.{number-low, enters, enters-none}
 
 kind-number-requires : tie.Need-kind-number-requires
 kind-number-requires c κs = search needs

@@ -1,11 +1,12 @@
+-- Made by tools/prove.py from answers/entries_of.txt: change that file, not this one.
 -- `document::entries_of` meets its contract. The loop's invariant: the entries are those of the first `at` marks.
 use Rattle.document.proofs.entries_of.Statement.{statement}
 use Rattle.document.proofs.entries_of.Tie as tie
 use Prim.Native.Nat.{_-_, _≤_}
 use mathlib.Core.Path.{_≡_, refl, ap, _∙_}
 use native.Mathlib.Omega.{arith}
-use Rattle.document_rules.specs.Steps.{entriesFrom}
-use Rattle.document_rules.proofs.Marks.{entries-more, entries-full}
+use Rattle.document.specs.DocumentCode.{entriesFrom}
+use Rattle.document.proofs.Marks.{entries-more, entries-full}
 use borrow.Author.Needs.{needs}
 
 abbrev Inv-loop : tie.InvT-loop

@@ -1,9 +1,10 @@
+-- Made by tools/prove.py from answers/fault_at.txt: change that file, not this one.
 -- `document::fault_at` meets its contract.
 use borrow.Author.Needs.{needs}
 use Rattle.document.proofs.fault_at.Statement.{statement}
 use Rattle.document.proofs.fault_at.Tie as tie
 use mathlib.Core.Path.{sym, _∙_}
-use Rattle.document_rules.specs.Steps.{faultAt}
+use Rattle.document.specs.DocumentCode.{faultAt}
 
 is-barred-requires : tie.Need-is-barred-requires
 is-barred-requires c κs = search needs

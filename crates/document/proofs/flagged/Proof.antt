@@ -1,3 +1,4 @@
+-- Made by tools/prove.py from answers/flagged.txt: change that file, not this one.
 -- `document::flagged` meets its contract.
 use borrow.Author.Needs.{needs}
 use Rattle.document.proofs.flagged.Statement.{statement}

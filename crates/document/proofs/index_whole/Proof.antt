@@ -1,3 +1,4 @@
+-- Made by tools/prove.py from answers/index_whole.txt: change that file, not this one.
 -- `document::index_whole` meets its contract.
 use borrow.Author.Needs.{needs}
 use Rattle.document.proofs.index_whole.Statement.{statement}
@@ -5,8 +6,8 @@ use Rattle.document.proofs.index_whole.Tie as tie
 use Prim.Native.Nat.{ℕ}
 use native.Mathlib.Omega.{arith}
 use lib.ListN.{length-replicate}
-use Rattle.walk_laws.proofs.Laws.{root-law}
-use Rattle.document_rules.proofs.Turns.{whole-known, whole-other}
+use Rattle.walk.proofs.WalkLaws.{root-law}
+use Rattle.document.proofs.Turns.{whole-known, whole-other}
 
 root-at-requires : tie.Need-root-at-requires
 root-at-requires c κs = search needs

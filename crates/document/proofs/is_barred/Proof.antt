@@ -1,10 +1,11 @@
+-- Made by tools/prove.py from answers/is_barred.txt: change that file, not this one.
 -- `document::is_barred` meets its contract.
 use borrow.Author.Needs.{needs}
 use Rattle.document.proofs.is_barred.Statement.{statement}
 use Rattle.document.proofs.is_barred.Tie as tie
 use mathlib.Core.Path.{refl}
 use mathlib.Core.List.{[], _∷_}
-use Rattle.document_rules.specs.Steps.{isBarred}
+use Rattle.document.specs.DocumentCode.{isBarred}
 use Rattle.schema.specs.declared.Kind.the-variants.{File, Kvaser, Version, Settings, Mode, CanBus, Parameters, TriggerBlock, Triggers, MsgId, MsgDlc, ErrorFrame, Startup, Statements, Statement, Expression, Actions, StartLog, StopLog, StopLogCompletely, Filters, MessagePass, MessageStop, Channel, Unknown}
 use Rattle.schema.proofs.Every.{told}
 

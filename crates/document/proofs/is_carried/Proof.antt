@@ -1,10 +1,11 @@
+-- Made by tools/prove.py from answers/is_carried.txt: change that file, not this one.
 -- `document::is_carried` meets its contract.
 use borrow.Author.Needs.{needs}
 use Rattle.document.proofs.is_carried.Statement.{statement}
 use Rattle.document.proofs.is_carried.Tie as tie
 use mathlib.Core.Path.{refl}
 use mathlib.Core.List.{[], _∷_}
-use Rattle.schema.specs.Steps.{isCarried}
+use Rattle.schema.specs.SchemaCode.{isCarried}
 use Rattle.schema.specs.declared.Kind.the-variants.{Kvaser, Version, Settings, Mode, CanBus, Parameters, TriggerBlock, Triggers, MsgId, MsgDlc, ErrorFrame, Startup, Statements, Statement, Expression, Actions, StartLog, StopLog, StopLogCompletely, Filters, MessagePass, MessageStop, Channel}
 use Rattle.schema.proofs.Every.{told}
 

@@ -1,3 +1,4 @@
+-- Made by tools/prove.py from answers/is_flagged.txt: change that file, not this one.
 -- `document::is_flagged` meets its contract.
 use borrow.Author.Needs.{needs}
 use Rattle.document.proofs.is_flagged.Statement.{statement}

@@ -1,10 +1,11 @@
+-- Made by tools/prove.py from answers/is_looked_at.txt: change that file, not this one.
 -- `document::is_looked_at` meets its contract.
 use borrow.Author.Needs.{needs}
 use Rattle.document.proofs.is_looked_at.Statement.{statement}
 use Rattle.document.proofs.is_looked_at.Tie as tie
 use mathlib.Core.Path.{sym, _∙_}
 use borrow.Author.Tests.{eq-eqb, ne-eqb}
-use Rattle.document_rules.specs.Steps.{looked, found}
+use Rattle.document.specs.DocumentCode.{looked, found}
 
 returns : tie.Need-returns
 unfolding looked found

@@ -1,8 +1,9 @@
+-- Made by tools/prove.py from answers/kind_number.txt: change that file, not this one.
 -- `document::kind_number` meets its contract.
 use borrow.Author.Needs.{needs}
 use Rattle.document.proofs.kind_number.Statement.{statement}
 use Rattle.document.proofs.kind_number.Tie as tie
-use Rattle.document_rules.specs.Steps.{kindNumber}
+use Rattle.document.specs.DocumentCode.{kindNumber}
 
 enum-told : tie.Need-enum-told
 enum-told c = search needs

@@ -1,8 +1,9 @@
+-- Made by tools/prove.py from answers/kind_of.txt: change that file, not this one.
 -- `document::kind_of` meets its contract.
 use Rattle.document.proofs.kind_of.Statement.{statement}
 use Rattle.document.proofs.kind_of.Tie as tie
-use Rattle.document_rules.specs.Steps.{kindOf}
-use Rattle.document_rules.proofs.Marks.{kind-none}
+use Rattle.document.specs.DocumentCode.{kindOf}
+use Rattle.document.proofs.Marks.{kind-none}
 
 returns : tie.Need-returns
 unfolding kindOf

@@ -1,9 +1,10 @@
+-- Made by tools/prove.py from answers/lacks_some.txt: change that file, not this one.
 -- `document::lacks_some` meets its contract.
 use borrow.Author.Needs.{needs}
 use Rattle.document.proofs.lacks_some.Statement.{statement}
 use Rattle.document.proofs.lacks_some.Tie as tie
 use mathlib.Core.Path.{sym, ap, _∙_}
-use Rattle.document_rules.specs.Steps.{lacksBy, lacksSome}
+use Rattle.document.specs.DocumentCode.{lacksBy, lacksSome}
 
 times-of-requires : tie.Need-times-of-requires
 times-of-requires c κs = search needs

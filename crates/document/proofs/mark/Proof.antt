@@ -1,9 +1,10 @@
+-- Made by tools/prove.py from answers/mark.txt: change that file, not this one.
 -- `document::mark` meets its contract.
 use borrow.Author.Needs.{needs}
 use Rattle.document.proofs.mark.Statement.{statement}
 use Rattle.document.proofs.mark.Tie as tie
 use mathlib.Core.Path.{sym, _∙_}
-use Rattle.document_rules.specs.Steps.{marked}
+use Rattle.document.specs.DocumentCode.{marked}
 
 is-carried-requires : tie.Need-is-carried-requires
 is-carried-requires c κs = search needs

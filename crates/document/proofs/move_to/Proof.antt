@@ -1,8 +1,9 @@
+-- Made by tools/prove.py from answers/move_to.txt: change that file, not this one.
 -- `document::move_to` meets its contract.
 use Rattle.document.proofs.move_to.Statement.{statement}
 use Rattle.document.proofs.move_to.Tie as tie
 use mathlib.Core.Path.{refl}
-use Rattle.document_rules.specs.Steps.{found}
+use Rattle.document.specs.DocumentCode.{found}
 
 returns : tie.Need-returns
 unfolding found

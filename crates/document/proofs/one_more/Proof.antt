@@ -1,9 +1,10 @@
+-- Made by tools/prove.py from answers/one_more.txt: change that file, not this one.
 -- `document::one_more` meets its contract.
 use borrow.Author.Needs.{needs}
 use Rattle.document.proofs.one_more.Statement.{statement}
 use Rattle.document.proofs.one_more.Tie as tie
 use borrow.Author.Tests.{lt-ltb, le-ltb}
-use Rattle.document_rules.specs.Steps.{oneMore}
+use Rattle.document.specs.DocumentCode.{oneMore}
 
 add-result : tie.Need-add-result
 add-result c = search needs

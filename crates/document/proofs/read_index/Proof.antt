@@ -1,10 +1,11 @@
+-- Made by tools/prove.py from answers/read_index.txt: change that file, not this one.
 -- `document::read_index` meets its contract.
 use borrow.Author.Needs.{needs}
 use Rattle.document.proofs.read_index.Statement.{statement}
 use Rattle.document.proofs.read_index.Tie as tie
 use mathlib.Core.Path.{subst}
-use Rattle.shape_rules.specs.Shape.{Shaped}
-use Rattle.document_rules.proofs.Laws.{indexes-whole, indexes-long, indexes-broken}
+use Rattle.shape.specs.Shape.{Shaped}
+use Rattle.document.proofs.Laws.{indexes-whole, indexes-long, indexes-broken}
 
 read-shape-requires : tie.Need-read-shape-requires
 read-shape-requires c κs = search needs

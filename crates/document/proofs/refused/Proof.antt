@@ -1,8 +1,9 @@
+-- Made by tools/prove.py from answers/refused.txt: change that file, not this one.
 -- `document::refused` meets its contract.
 use Rattle.document.proofs.refused.Statement.{statement}
 use Rattle.document.proofs.refused.Tie as tie
 use mathlib.Core.Path.{refl}
-use Rattle.document_rules.specs.Steps.{entriesFrom, found}
+use Rattle.document.specs.DocumentCode.{entriesFrom, found}
 
 returns : tie.Need-returns
 unfolding found entriesFrom

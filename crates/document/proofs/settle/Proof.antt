@@ -1,9 +1,10 @@
+-- Made by tools/prove.py from answers/settle.txt: change that file, not this one.
 -- `document::settle` meets its contract.
 use borrow.Author.Needs.{needs}
 use Rattle.document.proofs.settle.Statement.{statement}
 use Rattle.document.proofs.settle.Tie as tie
 use mathlib.Core.Path.{_∙_}
-use Rattle.document_rules.specs.Steps.{indexAt, found}
+use Rattle.document.specs.DocumentCode.{indexAt, found}
 
 refuse-requires : tie.Need-refuse-requires
 refuse-requires c κs = search needs

@@ -1,3 +1,4 @@
+-- Made by tools/prove.py from answers/gather.txt: change that file, not this one.
 -- `element::gather` meets its contract. The loop's invariant: with what is gathered so far, what is left of the start tag gives the whole answer.
 use Rattle.element.proofs.gather.Statement.{statement}
 use Rattle.element.proofs.gather.Tie as tie
@@ -5,7 +6,7 @@ use Prim.Native.Nat.{_-_}
 use mathlib.Core.Path.{sym, _∙_}
 use native.Mathlib.Omega.{arith}
 use lib.ListN.{length}
-use Rattle.walk_rules.proofs.Bounds.{part-from}
+use Rattle.walk.proofs.Bounds.{part-from}
 use Rattle.element.proofs.Turns.{GatherTurn, gather-start, gather-again, gather-done, gather-over}
 use borrow.Author.Needs.{needs}
 

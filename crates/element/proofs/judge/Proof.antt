@@ -1,3 +1,4 @@
+-- Made by tools/prove.py from answers/judge.txt: change that file, not this one.
 -- `element::judge` meets its contract.
 use borrow.Author.Needs.{needs}
 use Rattle.element.proofs.judge.Statement.{statement}

@@ -1,9 +1,10 @@
+-- Made by tools/prove.py from answers/put.txt: change that file, not this one.
 -- `element::put` meets its contract: what a value is worth decides which fields change.
 use borrow.Author.Needs.{needs}
 use Rattle.element.proofs.put.Statement.{statement}
 use Rattle.element.proofs.put.Tie as tie
 use mathlib.Core.Path.{sym, ap}
-use Rattle.element.specs.Steps.{put}
+use Rattle.element.specs.ElementCode.{putWorth}
 
 element-write-h : tie.Need-element-write-h
 element-write-h c = search needs
@@ -36,13 +37,13 @@ element-write-h-4 : tie.Need-element-write-h-4
 element-write-h-4 c = search needs
 
 returns : tie.Need-returns
-returns c = sym (ap (put (c .before .before .before .args .g) (c .before .before .before .args .slot)) (c .before .w .given .1))
+returns c = sym (ap (putWorth (c .before .before .before .args .g) (c .before .before .before .args .slot)) (c .before .w .given .1))
 
 returns-2 : tie.Need-returns-2
-returns-2 c = sym (ap (put (c .before .before .args .g) (c .before .before .args .slot)) (c .enum-told .given .1))
+returns-2 c = sym (ap (putWorth (c .before .before .args .g) (c .before .before .args .slot)) (c .enum-told .given .1))
 
 returns-3 : tie.Need-returns-3
-returns-3 c = sym (ap (put (c .before .before .args .g) (c .before .before .args .slot)) (c .enum-told2 .given .1))
+returns-3 c = sym (ap (putWorth (c .before .before .args .g) (c .before .before .args .slot)) (c .enum-told2 .given .1))
 
 pub put-spec : {M : Type 1} → statement M
 put-spec =

@@ -1,3 +1,4 @@
+-- Made by tools/prove.py from answers/copy_words.txt: change that file, not this one.
 -- `copy_words`. Invariant: the words stay as many.
 use Rattle.engine_cases.proofs.copy_words.Statement.{statement}
 use Rattle.engine_cases.proofs.copy_words.Tie as tie

@@ -1,3 +1,4 @@
+-- Made by tools/prove.py from answers/next_digit.txt: change that file, not this one.
 -- `next_digit`. Invariant: within the line.
 use Rattle.engine_cases.proofs.next_digit.Statement.{statement}
 use Rattle.engine_cases.proofs.next_digit.Tie as tie

@@ -1,3 +1,4 @@
+-- Made by tools/prove.py from answers/read_number.txt: change that file, not this one.
 -- `read_number`. Invariant: within the line.
 use Rattle.engine_cases.proofs.read_number.Statement.{statement}
 use Rattle.engine_cases.proofs.read_number.Tie as tie

@@ -1,3 +1,4 @@
+-- Made by tools/prove.py from answers/read_numbers.txt: change that file, not this one.
 -- `read_numbers`. Invariant: within the line and the buffer; the measure is the room left.
 use Rattle.engine_cases.proofs.read_numbers.Statement.{statement}
 use Rattle.engine_cases.proofs.read_numbers.Tie as tie

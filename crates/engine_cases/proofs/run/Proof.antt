@@ -1,3 +1,4 @@
+-- Made by tools/prove.py from answers/run.txt: change that file, not this one.
 -- `run`. Invariant: the buffers stay as long, the plan fits its own.
 use Rattle.engine_cases.proofs.run.Statement.{statement}
 use Rattle.engine_cases.proofs.run.Tie as tie

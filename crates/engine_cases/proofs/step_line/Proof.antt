@@ -1,3 +1,4 @@
+-- Made by tools/prove.py from answers/step_line.txt: change that file, not this one.
 -- `step_line`: parts within their buffers.
 use borrow.Author.Needs.{needs}
 use Rattle.engine_cases.proofs.step_line.Statement.{statement}

@@ -1,3 +1,4 @@
+-- Made by tools/prove.py from answers/+read_and+read_bracket+read_not+read_or.txt: change that file, not this one.
 -- The cycle of the readers meets its contracts: each return cites one law. The measure is four for each token that is left, and a number for the level: brackets 4, OR 3, AND 2, NOT 1.
 use Prim.Native.Nat.{ℕ, _<_}
 use borrow.Fn.Kinds.{In}

@@ -1,3 +1,4 @@
+-- Made by tools/prove.py from answers/all_named.txt: change that file, not this one.
 -- `all_named` meets its contract. The loop's invariant: every number passed is below 37.
 use Rattle.expression.proofs.all_named.Statement.{statement}
 use Rattle.expression.proofs.all_named.Tie as tie
@@ -5,12 +6,12 @@ use Prim.Native.Nat.{_-_, _≤_}
 use native.Mathlib.Omega.{arith}
 use mathlib.Core.Path.{_≡_, refl, sym, _∙_}
 use lib.ListN.{length, drop}
-use Rattle.grammar.specs.Steps.{named}
+use Rattle.grammar.specs.GrammarCode.{allNamed}
 use Rattle.grammar.proofs.Whole.{named-next, named-none, named-over}
 use borrow.Author.Needs.{needs}
 
 abbrev Inv-loop : tie.InvT-loop
-Inv-loop toks i₀ i = (i ≤ length toks) × (named toks ≡ named (drop i toks))
+Inv-loop toks i₀ i = (i ≤ length toks) × (allNamed toks ≡ allNamed (drop i toks))
 
 abbrev μ-loop : tie.MeasureT-loop
 μ-loop toks i₀ i = length toks - i

@@ -1,3 +1,4 @@
+-- Made by tools/prove.py from answers/compile.txt: change that file, not this one.
 -- `compile` meets its contract: the tokens are those of the text, at most 64.
 use borrow.Author.Needs.{needs}
 use Rattle.expression.proofs.compile.Statement.{statement}

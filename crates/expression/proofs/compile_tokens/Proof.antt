@@ -1,3 +1,4 @@
+-- Made by tools/prove.py from answers/compile_tokens.txt: change that file, not this one.
 -- `compile_tokens` meets its contract: each return cites one law of `Whole`.
 use borrow.Author.Needs.{needs}
 use Rattle.expression.proofs.compile_tokens.Statement.{statement}

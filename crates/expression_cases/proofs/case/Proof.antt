@@ -1,3 +1,4 @@
+-- Made by tools/prove.py from answers/case.txt: change that file, not this one.
 -- `case` touches no word out of range: an answer has at most 64.
 use borrow.Author.Needs.{needs}
 use Rattle.expression_cases.proofs.case.Statement.{statement}

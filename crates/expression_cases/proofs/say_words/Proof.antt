@@ -1,3 +1,4 @@
+-- Made by tools/prove.py from answers/say_words.txt: change that file, not this one.
 -- `say_words` touches no word out of range.
 use Rattle.expression_cases.proofs.say_words.Statement.{statement}
 use Rattle.expression_cases.proofs.say_words.Tie as tie

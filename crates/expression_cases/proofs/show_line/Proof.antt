@@ -1,3 +1,4 @@
+-- Made by tools/prove.py from answers/show_line.txt: change that file, not this one.
 use borrow.Author.Needs.{needs}
 use Rattle.expression_cases.proofs.show_line.Statement.{statement}
 use Rattle.expression_cases.proofs.show_line.Tie as tie

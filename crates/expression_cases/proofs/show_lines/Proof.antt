@@ -1,3 +1,4 @@
+-- Made by tools/prove.py from answers/show_lines.txt: change that file, not this one.
 use Rattle.expression_cases.proofs.show_lines.Statement.{statement}
 use Rattle.expression_cases.proofs.show_lines.Tie as tie
 use Prim.Native.Nat.{_-_}

@@ -13,9 +13,9 @@ use contract.Running.{givenOf, tables, tablesOf}
 use denote.Struct.Laws as LL
 use denote.Triple.Spec.{tripleOf}
 use denote.Triple.Table.{entered, cited}
-use Rattle.rules.specs.Rules.{frame}
-use Rattle.rules.proofs.Frame as Fr
-use Rattle.rules.proofs.Frame.Laws as Fr′
+use Rattle.event_rules.specs.Rules.{frame}
+use Rattle.event_rules.proofs.Frame as Fr
+use Rattle.event_rules.proofs.Frame.Laws as Fr′
 use Rattle.engine.proofs.take_frame.Symbol as take-def
 use Rattle.engine.proofs.take_frame.Symbol.{name as #engine·take-frame}
 use Rattle.engine.proofs.take_frame.Met as take-thm

@@ -16,7 +16,7 @@ use denote.Builtin.{u64}
 use denote.Plain.{uint-tells, uint-lawful, uint-makes}
 use denote.Triple.Spec.{tripleOf}
 use denote.Triple.Table.{entered, cited}
-use Rattle.rules.specs.Rules.{tick}
+use Rattle.event_rules.specs.Rules.{tick}
 use Rattle.engine.proofs.take_tick.Symbol as take-def
 use Rattle.engine.proofs.take_tick.Symbol.{name as #engine·take-tick}
 use Rattle.engine.proofs.take_tick.Met as take-thm

@@ -1,3 +1,4 @@
+-- Made by tools/prove.py from answers/cause_in.txt: change that file, not this one.
 -- `loader::cause_in` meets its contract. One way for each kind of trigger.
 use borrow.Author.Needs.{needs}
 use Rattle.loader.proofs.cause_in.Statement.{statement}

@@ -1,3 +1,4 @@
+-- Made by tools/prove.py from answers/filter_in.txt: change that file, not this one.
 -- `loader::filter_in` meets its contract.
 use borrow.Author.Needs.{needs}
 use Rattle.loader.proofs.filter_in.Statement.{statement}

@@ -1,3 +1,4 @@
+-- Made by tools/prove.py from answers/filter_ok.txt: change that file, not this one.
 -- `loader::filter_ok` meets its contract. What the record says is spelt again and compared: `filter-law`.
 use borrow.Author.Needs.{needs}
 use Rattle.loader.proofs.filter_ok.Statement.{statement}

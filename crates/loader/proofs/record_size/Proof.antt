@@ -1,9 +1,10 @@
+-- Made by tools/prove.py from answers/record_size.txt: change that file, not this one.
 -- `loader::record_size` meets its contract. One way for each kind of record.
 use borrow.Author.Needs.{needs}
 use Rattle.loader.proofs.record_size.Statement.{statement}
 use Rattle.loader.proofs.record_size.Tie as tie
 use native.Mathlib.Omega.{arith}
-use Rattle.loader.specs.Scan.{sizeOf}
+use Rattle.loader.specs.ScanCode.{sizeOf}
 
 enum-told : tie.Need-enum-told
 enum-told c = search needs

@@ -1,3 +1,4 @@
+-- Made by tools/prove.py from answers/trigger_ok.txt: change that file, not this one.
 -- `loader::trigger_ok` meets its contract. What the record says is spelt again and compared: `trigger-law`.
 use borrow.Author.Needs.{needs}
 use Rattle.loader.proofs.trigger_ok.Statement.{statement}

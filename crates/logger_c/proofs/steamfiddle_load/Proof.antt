@@ -1,3 +1,4 @@
+-- Made by tools/prove.py from answers/steamfiddle_load.txt: change that file, not this one.
 -- `steamfiddle_load` meets its contract: the number says what the loader answered.
 use borrow.Author.Needs.{needs}
 use Rattle.logger_c.proofs.steamfiddle_load.Statement.{statement}

@@ -1,3 +1,4 @@
+-- Made by tools/prove.py from answers/main.txt: change that file, not this one.
 -- `main` touches no byte out of range: what was printed lies in the buffer.
 use borrow.Author.Needs.{needs}
 use Rattle.plan.proofs.main.Statement.{statement}

@@ -1,3 +1,4 @@
+-- Made by tools/prove.py from answers/+put_digits.txt: change that file, not this one.
 -- `printing::put_digits` meets its contract. The measure is the places left.
 use Prim.Native.Nat.{ℕ, _<_}
 use borrow.Fn.Kinds.{In}

@@ -1,3 +1,4 @@
+-- Made by tools/prove.py from answers/print_answer.txt: change that file, not this one.
 -- `printing::print_answer` meets its contract: the answer of `convert`, told.
 use borrow.Author.Needs.{needs}
 use Rattle.printing.proofs.print_answer.Statement.{statement}

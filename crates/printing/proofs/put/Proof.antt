@@ -1,10 +1,11 @@
+-- Made by tools/prove.py from answers/put.txt: change that file, not this one.
 -- `printing::put` meets its contract: i bytes are added.
 use Rattle.printing.proofs.put.Statement.{statement}
 use Rattle.printing.proofs.put.Tie as tie
 use Prim.Native.Nat.{_-_}
 use lib.ListN.{length, take}
 use native.Mathlib.Omega.{arith}
-use Rattle.printing.specs.Steps.{Adds}
+use Rattle.printing.specs.PrintingCode.{Adds}
 use Rattle.printing.proofs.Puts.{adds-none, copied-more, copied-all}
 use borrow.Author.Needs.{needs}
 

@@ -1,3 +1,4 @@
+-- Made by tools/prove.py from answers/put_byte.txt: change that file, not this one.
 -- `printing::put_byte` meets its contract: a byte more, or none where the buffer ends.
 use borrow.Author.Needs.{needs}
 use Rattle.printing.proofs.put_byte.Statement.{statement}

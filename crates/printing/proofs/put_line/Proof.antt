@@ -1,8 +1,9 @@
+-- Made by tools/prove.py from answers/put_line.txt: change that file, not this one.
 -- `printing::put_line` meets its contract: the name, behind it the number, behind that the line's end.
 use borrow.Author.Needs.{needs}
 use Rattle.printing.proofs.put_line.Statement.{statement}
 use Rattle.printing.proofs.put_line.Tie as tie
-use Rattle.ascii.specs.Texts.{bytes}
+use Rattle.text.specs.Texts.{bytes}
 use Rattle.printing.specs.Printing.{decimal}
 use Rattle.printing.proofs.Puts.{adds-more}
 

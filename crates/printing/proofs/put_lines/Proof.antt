@@ -1,3 +1,4 @@
+-- Made by tools/prove.py from answers/put_lines.txt: change that file, not this one.
 -- `printing::put_lines` meets its contract: i lines are added.
 use Rattle.printing.proofs.put_lines.Statement.{statement}
 use Rattle.printing.proofs.put_lines.Tie as tie
@@ -5,7 +6,7 @@ use Prim.Native.Nat.{_-_, _≤_}
 use native.Mathlib.Omega.{arith}
 use lib.ListN.{take}
 use Rattle.printing.specs.Printing.{wordLines}
-use Rattle.printing.specs.Steps.{Adds}
+use Rattle.printing.specs.PrintingCode.{Adds}
 use Rattle.printing.proofs.Puts.{lines-none, lines-more, lines-all}
 use borrow.Author.Needs.{needs}
 

@@ -1,9 +1,10 @@
+-- Made by tools/prove.py from answers/put_refusal.txt: change that file, not this one.
 -- `printing::put_refusal` meets its contract: two lines.
 use borrow.Author.Needs.{needs}
 use Rattle.printing.proofs.put_refusal.Statement.{statement}
 use Rattle.printing.proofs.put_refusal.Tie as tie
-use Rattle.ascii.specs.Texts.{bytes}
-use Rattle.printing.specs.Printing.{line, refusalText}
+use Rattle.text.specs.Texts.{bytes}
+use Rattle.printing.specs.Printing.{textLine, refusalText}
 use Rattle.printing.proofs.Puts.{adds-more, adds-all}
 
 slice-aggregate-put-line : tie.Need-slice-aggregate-put-line
@@ -22,7 +23,7 @@ same-length : tie.Need-same-length
 same-length c = search needs
 
 returns : tie.Need-returns
-unfolding refusalText line bytes
+unfolding refusalText textLine bytes
 returns c = adds-all (adds-more (c .before .before .before .before .before .before .before .put-line .ensures) (c .before .before .put-line2 .ensures))
 
 pub put-refusal-spec : {M : Type 1} → statement M

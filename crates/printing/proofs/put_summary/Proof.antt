@@ -1,10 +1,11 @@
+-- Made by tools/prove.py from answers/put_summary.txt: change that file, not this one.
 -- `printing::put_summary` meets its contract: six lines.
 use borrow.Author.Needs.{needs}
 use Rattle.printing.proofs.put_summary.Statement.{statement}
 use Rattle.printing.proofs.put_summary.Tie as tie
 use mathlib.Core.Path.{_∙_}
-use Rattle.ascii.specs.Texts.{bytes}
-use Rattle.printing.specs.Printing.{line}
+use Rattle.text.specs.Texts.{bytes}
+use Rattle.printing.specs.Printing.{textLine}
 use Rattle.printing.proofs.Puts.{summed}
 
 slice-aggregate-put-line : tie.Need-slice-aggregate-put-line
@@ -62,7 +63,7 @@ same-length : tie.Need-same-length
 same-length c = c .before .before .put-line6 .ensures .long ∙ c .before .before .before .before .before .before .before .put-line5 .ensures .long ∙ c .before .before .before .before .before .before .before .before .before .before .before .before .before .put-line4 .ensures .long ∙ c .before .before .before .before .before .before .before .before .before .before .before .before .before .before .before .before .before .before .before .put-line3 .ensures .long ∙ c .before .before .before .before .before .before .before .before .before .before .before .before .before .before .before .before .before .before .before .before .before .before .before .before .before .put-line2 .ensures .long ∙ c .before .before .before .before .before .before .before .before .before .before .before .before .before .before .before .before .before .before .before .before .before .before .before .before .before .before .before .before .before .before .before .put-line .ensures .long
 
 returns : tie.Need-returns
-unfolding line bytes
+unfolding textLine bytes
 returns c = summed (c .before .before .before .before .before .before .before .before .before .before .before .before .before .before .before .before .before .before .before .before .before .before .before .before .before .before .before .before .before .before .before .before .before .before .before .before .before .args .words .now) (c .before .before .before .before .before .before .before .before .before .before .before .before .before .before .before .before .before .before .before .before .before .before .before .before .before .before .before .before .before .before .before .before .before .before .before .before .before .args .n) (c .before .before .before .before .before .before .before .before .before .before .before .before .before .before .before .before .before .before .before .before .before .before .before .before .before .before .before .before .before .before .before .before .before .word .ensures) (c .before .before .before .before .before .before .before .before .before .before .before .before .before .before .before .before .before .before .before .before .before .before .before .before .before .before .before .word2 .ensures) (c .before .before .before .before .before .before .before .before .before .before .before .before .before .before .before .before .before .before .before .before .before .word3 .ensures) (c .before .before .before .before .before .before .before .before .before .before .before .before .before .before .before .word4 .ensures) (c .before .before .before .before .before .before .before .before .before .word5 .ensures) (c .before .before .before .before .before .before .before .before .before .before .before .before .before .before .before .before .before .before .before .before .before .before .before .before .before .before .before .before .before .before .before .put-line .ensures) (c .before .before .before .before .before .before .before .before .before .before .before .before .before .before .before .before .before .before .before .before .before .before .before .before .before .put-line2 .ensures) (c .before .before .before .before .before .before .before .before .before .before .before .before .before .before .before .before .before .before .before .put-line3 .ensures) (c .before .before .before .before .before .before .before .before .before .before .before .before .before .put-line4 .ensures) (c .before .before .before .before .before .before .before .put-line5 .ensures) (c .before .before .put-line6 .ensures)
 
 pub put-summary-spec : {M : Type 1} → statement M

@@ -1,3 +1,4 @@
+-- Made by tools/prove.py from answers/word.txt: change that file, not this one.
 -- `printing::word` meets its contract.
 use borrow.Author.Needs.{needs}
 use Rattle.printing.proofs.word.Statement.{statement}

@@ -1,3 +1,4 @@
+-- Made by tools/prove.py from answers/effect_at.txt: change that file, not this one.
 -- `records::effect_at` meets its contract.
 use Rattle.records.proofs.effect_at.Statement.{statement}
 use Rattle.records.proofs.effect_at.Tie as tie

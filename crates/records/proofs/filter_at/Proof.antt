@@ -1,8 +1,9 @@
+-- Made by tools/prove.py from answers/filter_at.txt: change that file, not this one.
 -- `records::filter_at` meets its contract.
 use borrow.Author.Needs.{needs}
 use Rattle.records.proofs.filter_at.Statement.{statement}
 use Rattle.records.proofs.filter_at.Tie as tie
-use Rattle.records.specs.Readers.{filterAt}
+use Rattle.records.specs.RecordsCode.{filterAt}
 
 word-requires : tie.Need-word-requires
 word-requires c κs = search needs

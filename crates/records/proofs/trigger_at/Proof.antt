@@ -1,10 +1,11 @@
+-- Made by tools/prove.py from answers/trigger_at.txt: change that file, not this one.
 -- `records::trigger_at` meets its contract. One way for each kind of trigger.
 use borrow.Author.Needs.{needs}
 use Rattle.records.proofs.trigger_at.Statement.{statement}
 use Rattle.records.proofs.trigger_at.Tie as tie
 use mathlib.Core.Path.{_∙_, sym}
 use borrow.Author.Tests.{ne-eqb}
-use Rattle.records.specs.Readers.{triggerAt}
+use Rattle.records.specs.RecordsCode.{triggerAt}
 
 word-requires : tie.Need-word-requires
 word-requires c κs = search needs

@@ -1,10 +1,11 @@
+-- Made by tools/prove.py from answers/order_of.txt: change that file, not this one.
 -- `schema::order_of` meets its contract.
 use borrow.Author.Needs.{needs}
 use Rattle.schema.proofs.order_of.Statement.{statement}
 use Rattle.schema.proofs.order_of.Tie as tie
 use mathlib.Core.Path.{refl}
 use mathlib.Core.List.{[], _∷_}
-use Rattle.schema.specs.Steps.{orderOf}
+use Rattle.schema.specs.SchemaCode.{orderOf}
 use Rattle.schema.specs.declared.Kind.the-variants.{Settings, Statements, Actions, File, Kvaser, Version, Mode, Parameters, Triggers, MsgId, MsgDlc, ErrorFrame, Startup, Statement, Expression, StartLog, StopLog, StopLogCompletely, MessagePass, MessageStop, Channel, NotCarried, Unknown}
 use Rattle.schema.proofs.Every.{told}
 

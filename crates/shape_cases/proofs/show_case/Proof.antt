@@ -1,3 +1,4 @@
+-- Made by tools/prove.py from answers/show_case.txt: change that file, not this one.
 use borrow.Author.Needs.{needs}
 use Rattle.shape_cases.proofs.show_case.Statement.{statement}
 use Rattle.shape_cases.proofs.show_case.Tie as tie

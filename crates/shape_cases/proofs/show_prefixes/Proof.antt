@@ -1,3 +1,4 @@
+-- Made by tools/prove.py from answers/show_prefixes.txt: change that file, not this one.
 -- `shape_cases::show_prefixes` is safe and ends.
 use Rattle.shape_cases.proofs.show_prefixes.Statement.{statement}
 use Rattle.shape_cases.proofs.show_prefixes.Tie as tie

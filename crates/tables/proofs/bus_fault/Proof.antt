@@ -1,9 +1,10 @@
+-- Made by tools/prove.py from answers/bus_fault.txt: change that file, not this one.
 -- `tables::bus_fault` meets its contract.
 use borrow.Author.Needs.{needs}
 use Rattle.tables.proofs.bus_fault.Statement.{statement}
 use Rattle.tables.proofs.bus_fault.Tie as tie
 use mathlib.Core.Path.{sym, _∙_}
-use Rattle.tables.specs.Steps.{busFault}
+use Rattle.tables.specs.TablesCode.{busFault}
 
 cast-n : tie.Need-cast-n
 cast-n c = search needs

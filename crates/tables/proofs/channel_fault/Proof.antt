@@ -1,10 +1,11 @@
+-- Made by tools/prove.py from answers/channel_fault.txt: change that file, not this one.
 -- `tables::channel_fault` meets its contract. The loop's invariant: no entry before i names a channel that is not there.
 use Rattle.tables.proofs.channel_fault.Statement.{statement}
 use Rattle.tables.proofs.channel_fault.Tie as tie
 use Prim.Native.Nat.{_-_}
 use mathlib.Core.Path.{_∙_}
 use native.Mathlib.Omega.{arith}
-use Rattle.tables.specs.Steps.{isBeyond, channelFault}
+use Rattle.tables.specs.TablesCode.{isBeyond, channelFault}
 use Rattle.tables.proofs.Turns.{Looking, looking-first, looking-hit, looking-on, looking-none}
 use borrow.Author.Needs.{needs}
 

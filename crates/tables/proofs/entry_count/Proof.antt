@@ -1,3 +1,4 @@
+-- Made by tools/prove.py from answers/entry_count.txt: change that file, not this one.
 -- `tables::entry_count` meets its contract: the array has 382.
 use borrow.Author.Needs.{needs}
 use Rattle.tables.proofs.entry_count.Statement.{statement}

@@ -1,15 +1,16 @@
+-- Made by tools/prove.py from answers/first_bus.txt: change that file, not this one.
 -- `tables::first_bus` meets its contract. The loop's invariant: no entry before i is a CAN_BUS.
 use Rattle.tables.proofs.first_bus.Statement.{statement}
 use Rattle.tables.proofs.first_bus.Tie as tie
 use Prim.Native.Nat.{_-_}
 use mathlib.Core.Path.{_∙_}
 use native.Mathlib.Omega.{arith}
-use Rattle.element.specs.Steps.{is}
+use Rattle.element.specs.ElementCode.{isKind}
 use Rattle.tables.proofs.Turns.{Looking, looking-first, looking-hit, looking-on, looking-none}
 use borrow.Author.Needs.{needs}
 
 abbrev Inv-loop : tie.InvT-loop
-Inv-loop n entries i₀ i = Looking (λ e. is (e .kind) "CAN_BUS") entries n i
+Inv-loop n entries i₀ i = Looking (λ e. isKind (e .kind) "CAN_BUS") entries n i
 
 abbrev μ-loop : tie.MeasureT-loop
 μ-loop n entries i₀ i = n - i

@@ -1,3 +1,4 @@
+-- Made by tools/prove.py from answers/is_used.txt: change that file, not this one.
 -- `tables::is_used` meets its contract. The loop's invariant: none of the names before i is it.
 use Rattle.tables.proofs.is_used.Statement.{statement}
 use Rattle.tables.proofs.is_used.Tie as tie
@@ -5,11 +6,11 @@ use Prim.Native.Nat.{_-_}
 use mathlib.Core.Path.{_≡_, refl}
 use native.Mathlib.Omega.{arith}
 use lib.ListN.{length, take, drop}
-use Rattle.ascii.specs.Texts.{same}
-use Rattle.lexer.specs.Lex.{spans}
-use Rattle.schema.specs.Schema.{any}
+use Rattle.text.specs.Texts.{same}
+use Rattle.grammar.specs.Lex.{spans}
 use Rattle.tables.proofs.Turns.{used-hit, used-on, used-none}
 use borrow.Author.Needs.{needs}
+use Rattle.lists.specs.Lists.{any}
 
 abbrev Inv-loop : tie.InvT-loop
 Inv-loop file start end starts ends i₀ i = (length starts ≡ length ends) × (any (same (drop start (take end file))) (spans file (drop i starts) (drop i ends)) ≡ any (same (drop start (take end file))) (spans file starts ends))

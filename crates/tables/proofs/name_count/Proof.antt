@@ -1,3 +1,4 @@
+-- Made by tools/prove.py from answers/name_count.txt: change that file, not this one.
 -- `tables::name_count` meets its contract: the arrays have 32.
 use borrow.Author.Needs.{needs}
 use Rattle.tables.proofs.name_count.Statement.{statement}

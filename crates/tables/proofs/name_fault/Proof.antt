@@ -1,3 +1,4 @@
+-- Made by tools/prove.py from answers/name_fault.txt: change that file, not this one.
 -- `tables::name_fault` meets its contract: as many names as count.
 use borrow.Author.Needs.{needs}
 use Rattle.tables.proofs.name_fault.Statement.{statement}

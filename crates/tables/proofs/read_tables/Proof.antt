@@ -1,3 +1,4 @@
+-- Made by tools/prove.py from answers/read_tables.txt: change that file, not this one.
 -- `tables::read_tables` meets its contract.
 use borrow.Author.Needs.{needs}
 use Rattle.tables.proofs.read_tables.Statement.{statement}

@@ -1,3 +1,4 @@
+-- Made by tools/prove.py from answers/used_name.txt: change that file, not this one.
 -- `tables::used_name` meets its contract. The loop's invariant: no name before i is one before it.
 use Rattle.tables.proofs.used_name.Statement.{statement}
 use Rattle.tables.proofs.used_name.Tie as tie

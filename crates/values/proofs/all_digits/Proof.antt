@@ -1,3 +1,4 @@
+-- Made by tools/prove.py from answers/all_digits.txt: change that file, not this one.
 -- `values::all_digits` meets its contract. The loop's invariant: from here on, after v, the digits make what all of them make; v stays below 16 ^ i.
 use Rattle.values.proofs.all_digits.Statement.{statement}
 use Rattle.values.proofs.all_digits.Tie as tie

@@ -1,3 +1,4 @@
+-- Made by tools/prove.py from answers/digit_of.txt: change that file, not this one.
 -- `values::digit_of` meets its contract.
 use borrow.Author.Needs.{needs}
 use Rattle.values.proofs.digit_of.Statement.{statement}

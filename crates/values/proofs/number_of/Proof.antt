@@ -1,9 +1,10 @@
+-- Made by tools/prove.py from answers/number_of.txt: change that file, not this one.
 -- `values::number_of` meets its contract.
 use borrow.Author.Needs.{needs}
 use Rattle.values.proofs.number_of.Statement.{statement}
 use Rattle.values.proofs.number_of.Tie as tie
 use mathlib.Core.Path.{sym, _∙_}
-use Rattle.ascii.specs.Texts.{bytes}
+use Rattle.text.specs.Texts.{bytes}
 use Rattle.values.proofs.Numbers.{number-short, number-hex, number-plain}
 
 some-digits-requires : tie.Need-some-digits-requires

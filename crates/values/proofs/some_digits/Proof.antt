@@ -1,3 +1,4 @@
+-- Made by tools/prove.py from answers/some_digits.txt: change that file, not this one.
 -- `values::some_digits` meets its contract.
 use borrow.Author.Needs.{needs}
 use Rattle.values.proofs.some_digits.Statement.{statement}

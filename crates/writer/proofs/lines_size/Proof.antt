@@ -1,3 +1,4 @@
+-- Made by tools/prove.py from answers/lines_size.txt: change that file, not this one.
 -- `writer::lines_size` meets its contract: i statements are counted.
 use Rattle.writer.proofs.lines_size.Statement.{statement}
 use Rattle.writer.proofs.lines_size.Tie as tie

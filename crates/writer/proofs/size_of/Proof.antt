@@ -1,3 +1,4 @@
+-- Made by tools/prove.py from answers/size_of.txt: change that file, not this one.
 -- `writer::size_of` meets its contract.
 use borrow.Author.Needs.{needs}
 use Rattle.writer.proofs.size_of.Statement.{statement}

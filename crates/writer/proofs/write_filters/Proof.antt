@@ -1,3 +1,4 @@
+-- Made by tools/prove.py from answers/write_filters.txt: change that file, not this one.
 -- `writer::write_filters` meets its contract: i records are written, the next goes to `at`.
 use Rattle.writer.proofs.write_filters.Statement.{statement}
 use Rattle.writer.proofs.write_filters.Tie as tie

@@ -1,3 +1,4 @@
+-- Made by tools/prove.py from answers/write_triggers.txt: change that file, not this one.
 -- `writer::write_triggers` meets its contract: i records are written, the next goes to `at`.
 use Rattle.writer.proofs.write_triggers.Statement.{statement}
 use Rattle.writer.proofs.write_triggers.Tie as tie

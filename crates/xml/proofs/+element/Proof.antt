@@ -1,3 +1,4 @@
+-- Made by tools/prove.py from answers/+element.txt: change that file, not this one.
 -- `xml::element` meets its contract. The cycle's measure: how much deeper elements may nest. The loop's invariant: from here the content goes on as from the element's name.
 use Prim.Native.Nat.{ℕ, _<_}
 use borrow.Fn.Kinds.{In}
@@ -5,19 +6,19 @@ use borrow.Fn.PlainCycle.{Measures, is, falls, and}
 use Rattle.xml.proofs.element.Reads as element
 use Rattle.xml.proofs.element.Kinds as element-kinds
 use Rattle.xml.proofs.+element.Lts-element as element-lts
-use Rattle.runs.proofs.name_end.Reads as name-end-reads
-use Rattle.tags.proofs.end_tag.Reads as end-tag-reads
-use Rattle.tags.proofs.tag_rest.Reads as tag-rest-reads
+use Rattle.text.proofs.runs.name_end.Reads as name-end-reads
+use Rattle.xml.proofs.tags.end_tag.Reads as end-tag-reads
+use Rattle.xml.proofs.tags.tag_rest.Reads as tag-rest-reads
 use Rattle.xml.proofs.markup.Reads as markup-reads
 use Rattle.xml.proofs.+element.{statement}
 use Rattle.xml.proofs.+element.Tie.{close}
 use Prim.Native.Nat.{ℕ, _<_, _-_, _+_}
-use Rattle.shape_rules.proofs.Elements.{lt-deep, tagged-run, tagged-past, name-low, name-high, mark-run, mark-past, child-run}
-use Rattle.shape_rules.proofs.Slices.{slice-part}
-use Rattle.shape_rules.proofs.Run.{at-end}
-use Rattle.shape_rules.proofs.Steps.{past-from, then-at, then-bad, past-at}
-use Rattle.shape_rules.specs.Machine.{tag, name, at}
-use Rattle.shape_rules.specs.Reads.{inText, closing}
+use Rattle.shape.proofs.Elements.{lt-deep, tagged-run, tagged-past, name-low, name-high, mark-run, mark-past, child-run}
+use Rattle.shape.proofs.Slices.{slice-part}
+use Rattle.shape.proofs.Run.{at-end}
+use Rattle.shape.proofs.Steps.{past-from, then-at, then-bad, past-at}
+use Rattle.shape.specs.MachineCode.{tag, name, at}
+use Rattle.shape.specs.ReadsCode.{inText, closingTag}
 use lib.ListN.{length, getD}
 use lib.Seq.{slice}
 use mathlib.Core.List.{List, [], _∷_}
@@ -95,7 +96,7 @@ element-end-tag-requires : (t : ℕ) → element-lts.Need-end-tag-requires (name
 element-end-tag-requires t c κs = search needs
 
 element-returns-2 : (t : ℕ) → element-lts.Need-returns-2 (name-end-reads.Asked, name-end-reads.Learnt, tag-rest-reads.Asked, tag-rest-reads.Learnt, markup-reads.Asked, markup-reads.Learnt, end-tag-reads.Asked, end-tag-reads.Learnt, element-below t, element.Post) (element-at t) element.Post element-Inv-loop element-μ-loop
-element-returns-2 t c = let h = mark-past (c .before .before .before .before .before .before .before .before .before .before .before .before .before .before .args .file .now) (c .before .before .before .before .before .before .before .loop .here) (c .before .before .before .before .before .markup .result) (c .before .before .before .before .before .markup .ensures) (c .before .before .before .name .given .1) in let l = name-low (c .before .before .before .before .before .before .before .before .before .before .before .before .before .before .args .file .now) (c .before .before .before .before .before .before .before .before .before .before .before .before .before .before .args .from) (c .before .before .before .before .before .before .before .before .before .before .before .before .name-end .result) (c .before .before .before .before .before .before .before .before .before .before .before .tag-rest .result) (c .before .before .before .before .before .before .before .before .before .before .before .before .before .before .pre .1) (c .before .before .before .before .before .before .before .before .before .before .before .before .name-end .ensures) (c .before .before .before .before .before .before .before .before .before .before .before .tag-rest .ensures .0) in let e = slice-part (c .before .before .before .before .before .before .before .before .before .before .before .before .before .before .args .file .now) (c .before .before .before .before .before .before .before .before .before .before .before .before .before .before .args .from) (c .before .before .before .before .before .before .before .before .before .before .before .before .name-end .result) (omega (arith, l)) (name-high (c .before .before .before .before .before .before .before .before .before .before .before .before .before .before .args .file .now) (c .before .before .before .before .before .before .before .before .before .before .before .before .before .before .args .from) (c .before .before .before .before .before .before .before .before .before .before .before .before .name-end .result) (c .before .before .before .before .before .before .before .before .before .before .before .tag-rest .result) (c .before .before .before .before .before .before .before .before .before .before .before .before .before .before .pre .1) (c .before .before .before .before .before .before .before .before .before .before .before .before .name-end .ensures) (c .before .before .before .before .before .before .before .before .before .before .before .tag-rest .ensures .0)) in record { run = λ k q. sym (c .before .before .before .before .before .before .before .loop .inv .1 k q) ∙ mark-run (c .before .before .before .before .before .before .before .before .before .before .before .before .before .before .args .file .now) (c .before .before .before .before .before .before .before .loop .here) (c .before .before .before .before .before .markup .result) (c .before .before .before .before .before .markup .ensures) (c .before .before .before .name .given .1) (k, slice (c .before .before .before .before .before .before .before .before .before .before .before .before .before .before .args .from) (c .before .before .before .before .before .before .before .before .before .before .before .before .name-end .result) (c .before .before .before .before .before .before .before .before .before .before .before .before .before .before .args .file .now)) ∙ ap (λ (n : List ℕ). at (closing n k) (c .before .before .before .before .before .before .before .before .before .before .before .before .before .before .args .file .now) (c .before .before .before .name .given .0 .0)) (sym e) ∙ c .end-tag .ensures .0 .run k; past = past-from (c .before .before .before .before .before .before .before .before .before .before .before .before .before .before .args .file .now) (c .before .before .before .before .before .before .before .before .before .before .before .before .before .before .args .from) (c .before .before .before .name .given .0 .0) (c .end-tag .result) (omega (arith, h .0, c .before .before .before .before .before .before .before .loop .inv .0)) (c .end-tag .ensures .0 .past) }
+element-returns-2 t c = let h = mark-past (c .before .before .before .before .before .before .before .before .before .before .before .before .before .before .args .file .now) (c .before .before .before .before .before .before .before .loop .here) (c .before .before .before .before .before .markup .result) (c .before .before .before .before .before .markup .ensures) (c .before .before .before .name .given .1) in let l = name-low (c .before .before .before .before .before .before .before .before .before .before .before .before .before .before .args .file .now) (c .before .before .before .before .before .before .before .before .before .before .before .before .before .before .args .from) (c .before .before .before .before .before .before .before .before .before .before .before .before .name-end .result) (c .before .before .before .before .before .before .before .before .before .before .before .tag-rest .result) (c .before .before .before .before .before .before .before .before .before .before .before .before .before .before .pre .1) (c .before .before .before .before .before .before .before .before .before .before .before .before .name-end .ensures) (c .before .before .before .before .before .before .before .before .before .before .before .tag-rest .ensures .0) in let e = slice-part (c .before .before .before .before .before .before .before .before .before .before .before .before .before .before .args .file .now) (c .before .before .before .before .before .before .before .before .before .before .before .before .before .before .args .from) (c .before .before .before .before .before .before .before .before .before .before .before .before .name-end .result) (omega (arith, l)) (name-high (c .before .before .before .before .before .before .before .before .before .before .before .before .before .before .args .file .now) (c .before .before .before .before .before .before .before .before .before .before .before .before .before .before .args .from) (c .before .before .before .before .before .before .before .before .before .before .before .before .name-end .result) (c .before .before .before .before .before .before .before .before .before .before .before .tag-rest .result) (c .before .before .before .before .before .before .before .before .before .before .before .before .before .before .pre .1) (c .before .before .before .before .before .before .before .before .before .before .before .before .name-end .ensures) (c .before .before .before .before .before .before .before .before .before .before .before .tag-rest .ensures .0)) in record { run = λ k q. sym (c .before .before .before .before .before .before .before .loop .inv .1 k q) ∙ mark-run (c .before .before .before .before .before .before .before .before .before .before .before .before .before .before .args .file .now) (c .before .before .before .before .before .before .before .loop .here) (c .before .before .before .before .before .markup .result) (c .before .before .before .before .before .markup .ensures) (c .before .before .before .name .given .1) (k, slice (c .before .before .before .before .before .before .before .before .before .before .before .before .before .before .args .from) (c .before .before .before .before .before .before .before .before .before .before .before .before .name-end .result) (c .before .before .before .before .before .before .before .before .before .before .before .before .before .before .args .file .now)) ∙ ap (λ (n : List ℕ). at (closingTag n k) (c .before .before .before .before .before .before .before .before .before .before .before .before .before .before .args .file .now) (c .before .before .before .name .given .0 .0)) (sym e) ∙ c .end-tag .ensures .0 .run k; past = past-from (c .before .before .before .before .before .before .before .before .before .before .before .before .before .before .args .file .now) (c .before .before .before .before .before .before .before .before .before .before .before .before .before .before .args .from) (c .before .before .before .name .given .0 .0) (c .end-tag .result) (omega (arith, h .0, c .before .before .before .before .before .before .before .loop .inv .0)) (c .end-tag .ensures .0 .past) }
 
 element-enum-known-child : (t : ℕ) → element-lts.Need-enum-known-child (name-end-reads.Asked, name-end-reads.Learnt, tag-rest-reads.Asked, tag-rest-reads.Learnt, markup-reads.Asked, markup-reads.Learnt, end-tag-reads.Asked, end-tag-reads.Learnt, element-below t, element.Post) (element-at t) element.Post element-Inv-loop element-μ-loop
 element-enum-known-child t c = search needs

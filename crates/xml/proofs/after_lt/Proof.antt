@@ -1,13 +1,14 @@
+-- Made by tools/prove.py from answers/after_lt.txt: change that file, not this one.
 -- `xml::after_lt` meets its contract.
 use borrow.Author.Needs.{needs}
 use Rattle.xml.proofs.after_lt.Statement.{statement}
 use Rattle.xml.proofs.after_lt.Tie as tie
 use Prim.Native.Nat.{_+_}
-use Rattle.shape_rules.proofs.Elements.{lt-comment, lt-close, lt-dead}
-use Rattle.shape_rules.proofs.Run.{at-end}
-use Rattle.shape_rules.proofs.Steps.{then-at, then-bad, past-at}
-use Rattle.shape_rules.specs.Machine.{idle, inside}
-use Rattle.shape_rules.specs.Reads.{inLt}
+use Rattle.shape.proofs.Elements.{lt-comment, lt-close, lt-dead}
+use Rattle.shape.proofs.Run.{at-end}
+use Rattle.shape.proofs.Steps.{then-at, then-bad, past-at}
+use Rattle.shape.specs.MachineCode.{idle, inside}
+use Rattle.shape.specs.ReadsCode.{inLt}
 use mathlib.Core.Path.{refl, sym, _∙_}
 use native.Mathlib.Omega.{arith}
 

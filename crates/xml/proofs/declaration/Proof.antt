@@ -1,9 +1,10 @@
+-- Made by tools/prove.py from answers/declaration.txt: change that file, not this one.
 -- `xml::declaration` meets its contract.
 use borrow.Author.Needs.{needs}
 use Rattle.xml.proofs.declaration.Statement.{statement}
 use Rattle.xml.proofs.declaration.Tie as tie
-use Rattle.shape_rules.proofs.Files.{decl-x, decl-m}
-use Rattle.shape_rules.proofs.Steps.{reads-then, reads-bad}
+use Rattle.shape.proofs.Files.{decl-x, decl-m}
+use Rattle.shape.proofs.Steps.{reads-then, reads-bad}
 
 expect-requires : tie.Need-expect-requires
 expect-requires c κs = search needs

@@ -1,9 +1,10 @@
+-- Made by tools/prove.py from answers/declared_text.txt: change that file, not this one.
 -- `xml::declared_text` meets its contract.
 use borrow.Author.Needs.{needs}
 use Rattle.xml.proofs.declared_text.Statement.{statement}
 use Rattle.xml.proofs.declared_text.Tie as tie
-use Rattle.shape_rules.proofs.Files.{decl-l, decl-gt, decl-text}
-use Rattle.shape_rules.proofs.Steps.{reads-then, reads-bad}
+use Rattle.shape.proofs.Files.{decl-l, decl-gt, decl-text}
+use Rattle.shape.proofs.Steps.{reads-then, reads-bad}
 
 expect-requires : tie.Need-expect-requires
 expect-requires c κs = search needs

@@ -1,10 +1,11 @@
+-- Made by tools/prove.py from answers/markup.txt: change that file, not this one.
 -- `xml::markup` meets its contract.
 use borrow.Author.Needs.{needs}
 use Rattle.xml.proofs.markup.Statement.{statement}
 use Rattle.xml.proofs.markup.Tie as tie
-use Rattle.shape_rules.proofs.Elements.{text-reads, mark-then}
-use Rattle.shape_rules.proofs.Steps.{then-bad}
-use Rattle.shape_rules.specs.Reads.{inLt}
+use Rattle.shape.proofs.Elements.{text-reads, mark-then}
+use Rattle.shape.proofs.Steps.{then-bad}
+use Rattle.shape.specs.ReadsCode.{inLt}
 
 text-end-requires : tie.Need-text-end-requires
 text-end-requires c κs = search needs

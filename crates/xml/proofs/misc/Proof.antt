@@ -1,13 +1,14 @@
+-- Made by tools/prove.py from answers/misc.txt: change that file, not this one.
 -- `xml::misc` meets its contract. The loop's invariant: from here the file goes on as from where it began.
 use Rattle.xml.proofs.misc.Statement.{statement}
 use Rattle.xml.proofs.misc.Tie as tie
 use Prim.Native.Nat.{_-_, _+_}
-use Rattle.ascii.proofs.Spans.{low-of, stop-of}
-use Rattle.letters.specs.Kinds.{isBlank}
-use Rattle.shape_rules.proofs.Files.{outer-lt, outer-bad, outer-blanks, misc-bang}
-use Rattle.shape_rules.proofs.Steps.{then-at, then-bad, past-at}
-use Rattle.shape_rules.specs.Machine.{idle, at}
-use Rattle.shape_rules.specs.Reads.{outer}
+use Rattle.text.proofs.Spans.{low-of, stop-of}
+use Rattle.text.specs.Kinds.{isBlank}
+use Rattle.shape.proofs.Files.{outer-lt, outer-bad, outer-blanks, misc-bang}
+use Rattle.shape.proofs.Steps.{then-at, then-bad, past-at}
+use Rattle.shape.specs.MachineCode.{idle, at}
+use Rattle.shape.specs.ReadsCode.{outer}
 use borrow.Author.Tests.{ne-eqb}
 use lib.ListN.{length}
 use mathlib.Core.Bool.{Bool}

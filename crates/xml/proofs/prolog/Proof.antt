@@ -1,8 +1,9 @@
+-- Made by tools/prove.py from answers/prolog.txt: change that file, not this one.
 -- `xml::prolog` meets its contract.
 use borrow.Author.Needs.{needs}
 use Rattle.xml.proofs.prolog.Statement.{statement}
 use Rattle.xml.proofs.prolog.Tie as tie
-use Rattle.shape_rules.proofs.Files.{start-decl, start-none}
+use Rattle.shape.proofs.Files.{start-decl, start-none}
 use mathlib.Core.Path.{_∙_}
 use native.Mathlib.Omega.{arith}
 

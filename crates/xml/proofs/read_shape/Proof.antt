@@ -1,11 +1,12 @@
+-- Made by tools/prove.py from answers/read_shape.txt: change that file, not this one.
 -- `xml::read_shape` meets its contract.
 use borrow.Author.Needs.{needs}
 use Rattle.xml.proofs.read_shape.Statement.{statement}
 use Rattle.xml.proofs.read_shape.Tie as tie
-use Rattle.shape_rules.proofs.Steps.{then-at, then-bad}
-use Rattle.shape_rules.proofs.Viability.{by-run}
-use Rattle.shape_rules.specs.Machine.{idle, before, after}
-use Rattle.shape_rules.specs.Reads.{asShape}
+use Rattle.shape.proofs.Steps.{then-at, then-bad}
+use Rattle.shape.proofs.Viability.{by-run}
+use Rattle.shape.specs.MachineCode.{idle, before, after}
+use Rattle.shape.specs.ReadsCode.{asShape}
 use mathlib.Core.Path.{sym, ap, _∙_}
 
 returns : tie.Need-returns

@@ -1,12 +1,13 @@
+-- Made by tools/prove.py from answers/root.txt: change that file, not this one.
 -- `xml::root` meets its contract.
 use borrow.Author.Needs.{needs}
 use Rattle.xml.proofs.root.Statement.{statement}
 use Rattle.xml.proofs.root.Tie as tie
-use Rattle.shape_rules.proofs.Files.{root-start, root-bad}
-use Rattle.shape_rules.proofs.Run.{at-end}
-use Rattle.shape_rules.specs.Machine.{idle, lt, before}
-use Rattle.shape_rules.specs.Reads.{goesOuter, Found}
-use Rattle.shape_rules.specs.declared.Outer.{Outer}
+use Rattle.shape.proofs.Files.{root-start, root-bad}
+use Rattle.shape.proofs.Run.{at-end}
+use Rattle.shape.specs.MachineCode.{idle, lt, before}
+use Rattle.shape.specs.ReadsCode.{goesOuter, FoundOuter}
+use Rattle.shape.specs.declared.Outer.{Outer}
 use mathlib.Core.Bool.{true}
 use mathlib.Core.Path.{refl, sym, ap, _∙_, subst}
 
@@ -35,13 +36,13 @@ returns : tie.Need-returns
 returns c = c .before .before .before .before .before .before .before .before .misc .ensures .run true ∙ ap (goesOuter true (c .before .before .before .before .before .before .before .before .before .before .args .file .now)) (c .before .before .before .before .before .before .name .given .1) ∙ root-start (c .before .before .before .before .before .before .before .before .before .before .args .file .now) (c .before .before .before .before .before .before .name .given .0 .0) (c .before .before .before .before .if1 .taken) (sym (c .before .before .is-start .ensures) ∙ c .before .if2 .taken) ∙ c .element .ensures .run _ refl
 
 returns-2 : tie.Need-returns-2
-returns-2 c = c .before .before .before .misc .ensures .run true ∙ ap (goesOuter true (c .before .before .before .before .before .args .file .now)) (c .before .p .given .1) ∙ at-end (idle before) (c .before .before .before .before .before .args .file .now) (c .before .p .given .0 .0) (subst (λ (r : Outer). Found (c .before .before .before .before .before .args .file .now) r) (c .before .p .given .1) (c .before .before .before .misc .ensures .found))
+returns-2 c = c .before .before .before .misc .ensures .run true ∙ ap (goesOuter true (c .before .before .before .before .before .args .file .now)) (c .before .p .given .1) ∙ at-end (idle before) (c .before .before .before .before .before .args .file .now) (c .before .p .given .0 .0) (subst (λ (r : Outer). FoundOuter (c .before .before .before .before .before .args .file .now) r) (c .before .p .given .1) (c .before .before .before .misc .ensures .found))
 
 returns-3 : tie.Need-returns-3
 returns-3 c = c .before .before .before .misc .ensures .run true ∙ ap (goesOuter true (c .before .before .before .before .before .args .file .now)) (c .before .p2 .given .1)
 
 returns-4 : tie.Need-returns-4
-returns-4 c = c .before .before .before .before .before .before .before .misc .ensures .run true ∙ ap (goesOuter true (c .before .before .before .before .before .before .before .before .before .args .file .now)) (c .before .before .before .before .before .name .given .1) ∙ root-bad (c .before .before .before .before .before .before .before .before .before .args .file .now) (c .before .before .before .before .before .name .given .0 .0) (c .before .before .before .if1 .taken) (subst (λ (r : Outer). Found (c .before .before .before .before .before .before .before .before .before .args .file .now) r) (c .before .before .before .before .before .name .given .1) (c .before .before .before .before .before .before .before .misc .ensures .found) (c .before .before .before .if1 .taken)) (sym (c .before .is-start .ensures) ∙ c .if2 .left)
+returns-4 c = c .before .before .before .before .before .before .before .misc .ensures .run true ∙ ap (goesOuter true (c .before .before .before .before .before .before .before .before .before .args .file .now)) (c .before .before .before .before .before .name .given .1) ∙ root-bad (c .before .before .before .before .before .before .before .before .before .args .file .now) (c .before .before .before .before .before .name .given .0 .0) (c .before .before .before .if1 .taken) (subst (λ (r : Outer). FoundOuter (c .before .before .before .before .before .before .before .before .before .args .file .now) r) (c .before .before .before .before .before .name .given .1) (c .before .before .before .before .before .before .before .misc .ensures .found) (c .before .before .before .if1 .taken)) (sym (c .before .is-start .ensures) ∙ c .if2 .left)
 
 returns-5 : tie.Need-returns-5
 returns-5 c = c .before .before .before .before .misc .ensures .run true ∙ ap (goesOuter true (c .before .before .before .before .before .before .args .file .now)) (c .before .before .name .given .1) ∙ at-end (lt before) (c .before .before .before .before .before .before .args .file .now) (c .before .before .name .given .0 .0) (c .if1 .left)

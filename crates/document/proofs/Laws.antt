@@ -1,0 +1,244 @@
+-- The index of a well-shaped file: its first fault, or all its known elements. The answer of `index` is the only one of its contract.
+use Prim.Native.Nat.{ℕ, suc, _+_, _-_, _≤_, _<_}
+use native.Mathlib.Omega.{arith}
+use mathlib.Core.Path.{_≡_, refl, sym, ap, _∙_}
+use mathlib.Core.List.{List, [], _∷_, _++_, map, map-append, append-assoc, append-nil}
+use mathlib.Core.Option.{Option, none, some}
+use mathlib.Core.Bool.{true, false}
+use lib.Dec.{eqb, ltb}
+use lib.ListN.{length, getD, set, replicate, length-map, length-append}
+use lib.Seq.{set-at}
+use borrow.Author.Tests.{eq-eqb, ne-eqb, lt-ltb}
+use Rattle.text.specs.Texts.{bytes, same}
+use Rattle.lists.proofs.Cases.{by-cases}
+use Rattle.shape.specs.declared.Shape.{Shape}
+use Rattle.shape.specs.declared.Shape.the-variants.{Whole, TooLong, Broken}
+use Rattle.shape.specs.Shape.{Attribute, Node, node, Items, WellShaped, Shaped, shapeRefusal}
+use Rattle.shape.proofs.OneDoc.{one-doc}
+use Rattle.shape.proofs.OneAnswer.{one-answer}
+use Rattle.walk.specs.WalkCode as walk
+use Rattle.walk.specs.StandsCode.{ElementAt}
+use Rattle.walk.proofs.WalkLaws.{root-law, element-law}
+use Rattle.schema.specs.declared.Kind.{Kind}
+use Rattle.schema.specs.declared.Kind.the-variants.{File, Unknown}
+use Rattle.schema.specs.Schema.{oneOf, under, parentIn, parents}
+use Rattle.schema.specs.SchemaCode.{kindName, kinds, kindAmong, kindUnder, orderOf, isCarried}
+use Rattle.schema.proofs.Every.{everywhere}
+use Rattle.schema.proofs.Laws.{carried-carried, unknown-kind}
+use Rattle.file_rules.specs.Element.{Known, Fault, _at_if_, ownFaults}
+use Rattle.element.specs.ElementCode.{firstNumber}
+use Rattle.element.proofs.Laws.{fault-place, no-fault}
+use Rattle.document.specs.declared.Index.{Index}
+use Rattle.file_rules.specs.Document.{knownElements, knownIn, knownAt, lacks, elementFaults}
+use Rattle.document.specs.DocumentCode.{absorbed, absorb, entered, refusedIndex, FoundSoFar, empty, noEntry, entryOf, indexOf, noneSeen, isOver, childAt, visitFrom, noneFound, indexAt, indexed, Indexes}
+use Rattle.document.proofs.Absorbs.{absorb-still, absorb-enter, absorb-refuse}
+use Rattle.document.proofs.Seens.{seen-none}
+use Rattle.document.proofs.Visits.{Agrees, child-kind, visits}
+use Rattle.document.proofs.Few.{Clean, clean-first, few}
+use Rattle.lists.specs.Lists.{any, gathered}
+
+-- ---- the fold, if there is no fault
+pub enter-one : (done : List Known) (k : Known) → length done < 382
+    → entered (indexOf done) (kindAmong kinds (k .name)) (k .place) ≡ indexOf (done ++ (k ∷ []))
+unfolding entered indexOf
+enter-one done k h =
+    let e : 382 - length done ≡ suc (382 - length (done ++ (k ∷ []))) = let g = length-append done (k ∷ []) in omega (arith, g) in
+    let c : length done + 1 ≡ length (done ++ (k ∷ [])) = sym (length-append done (k ∷ [])) in
+    let r = replicate (382 - length (done ++ (k ∷ []))) noEntry in
+    let s : set (map entryOf done ++ (noEntry ∷ r)) (length done) (entryOf k) ≡ map entryOf done
+    ++ (entryOf k ∷ r) = set-at (map entryOf done) noEntry r (entryOf k) (length done) (length-map done entryOf) in
+    let m : map entryOf done ++ (entryOf k ∷ r) ≡ map entryOf (done ++ (k ∷ []))
+    ++ r = sym (rw (map-append entryOf done (k ∷ [])) (append-assoc (map entryOf done) (entryOf k ∷ []) r)) in
+    rw (lt-ltb (length done) 382 h, e, s, m, c)
+
+enter-first : (done : List Known) (k : Known) → ownFaults k ≡ []
+    → absorbed k (indexOf done) ≡ entered (indexOf done) (kindAmong kinds (k .name)) (k .place)
+unfolding indexOf firstNumber
+enter-first done k h = absorb-enter k (indexOf done) refl (ap firstNumber h)
+
+pub absorb-all : (done ks : List Known) → Clean ks → length (done ++ ks) ≤ 382 → absorb ks (indexOf done) ≡ indexOf (done ++ ks)
+unfolding absorb
+absorb-all done [] c h = ap indexOf (sym (append-nil done))
+absorb-all done (k ∷ ks) c h =
+    let g = clean-first k ks c in
+    let n : length done + length (k ∷ ks) ≤ 382 = rw (length-append done (k ∷ ks)) at h in
+    let a : (done ++ (k ∷ [])) ++ ks ≡ done ++ (k ∷ ks) = append-assoc done (k ∷ []) ks in
+    ap (absorb ks) (enter-first done k (g .0) ∙ enter-one done k (omega (arith, n)))
+    ∙ (absorb-all (done ++ (k ∷ [])) ks (g .1) (rw a h) ∙ ap indexOf a)
+
+index-number : (ks : List Known) → indexOf ks .number ≡ 0
+unfolding indexOf
+index-number ks = refl
+
+clean-index : (ks : List Known) → Clean ks → length ks ≤ 382 → absorb ks empty ≡ indexOf ks
+unfolding indexOf
+clean-index ks c h = absorb-all [] ks c h
+
+-- the index x says what the faults gs say, or else the known elements ks
+abbrev pub Settles : List Fault → List Known → Index → Type 0
+Settles [] ks x = x ≡ indexOf ks
+Settles (a ∷ l) ks x = x ≡ refusedIndex (a .number) (a .place)
+
+-- ---- the fold, if there is one
+head-of : {X : Type 0} {a b : X} {l m : List X} → a ∷ l ≡ b ∷ m → a ≡ b
+head-of {a = a} e = ap (λ l. getD l 0 a) e
+
+entered-number : (x : Index) (k : Kind) (p : ℕ) → entered x k p .number ≡ x .number
+unfolding entered
+entered-number x k p = by-cases (ltb (x .count) 382) (λ t. rw t) (λ t. rw t)
+
+absorb-at : (k : Known) (ks : List Known) (x : Index) → x .number ≡ 0 → (a : Fault) (l fs : List Fault) → ownFaults k ≡ fs
+    → fs ++ gathered ownFaults ks ≡ a ∷ l
+    →
+    ((x : Index) → x .number ≡ 0 → (a : Fault) (l : List Fault) → gathered ownFaults ks ≡ a ∷ l
+    → absorb ks x ≡ refusedIndex (a .number) (a .place)) → absorb ks (absorbed k x) ≡ refusedIndex (a .number) (a .place)
+unfolding firstNumber
+absorb-at k ks x z a l [] e g rec =
+    let h : firstNumber (ownFaults k) ≡ 0 = ap firstNumber e in
+    ap (absorb ks) (absorb-enter k x (eq-eqb (x .number) 0 z) h)
+    ∙ rec (entered x (kindAmong kinds (k .name)) (k .place)) (entered-number x (kindAmong kinds (k .name)) (k .place) ∙ z) a l g
+absorb-at k ks x z a l (b ∷ fs) e g rec =
+    let h : firstNumber (ownFaults k) ≡ b .number = ap firstNumber e in
+    let w : b .number ≡ 0 → ⊥ = λ y. absurd (omega (arith, ap length (sym e ∙ no-fault k (h ∙ y)))) in
+    let c : absorbed k x ≡ refusedIndex (b .number) (k .place) = absorb-refuse k x (eq-eqb (x .number) 0 z) (b .number) h w in
+    ap (absorb ks) c
+    ∙
+    (absorb-still ks (refusedIndex (b .number) (k .place)) w
+    ∙ (ap (refusedIndex (b .number)) (sym (fault-place k b fs e))
+    ∙ ap (λ (y : Fault). refusedIndex (y .number) (y .place)) (head-of g)))
+
+absorb-fault : (ks : List Known) (x : Index) → x .number ≡ 0 → (a : Fault) (l : List Fault) → gathered ownFaults ks ≡ a ∷ l
+    → absorb ks x ≡ refusedIndex (a .number) (a .place)
+unfolding absorb gathered
+absorb-fault [] x z a l g = absurd (omega (arith, ap length g))
+absorb-fault (k ∷ ks) x z a l g = absorb-at k ks x z a l (ownFaults k) refl g (absorb-fault ks)
+
+number-at : (k : Known) (ks : List Known) (a : Fault) (l fs : List Fault) → ownFaults k ≡ fs → fs ++ gathered ownFaults ks ≡ a ∷ l
+    → ((a : Fault) (l : List Fault) → gathered ownFaults ks ≡ a ∷ l → a .number ≡ 0 → ⊥) → a .number ≡ 0 → ⊥
+unfolding firstNumber
+number-at k ks a l [] e g rec z = rec a l g z
+number-at k ks a l (b ∷ fs) e g rec z =
+    absurd (omega (arith, ap length (sym e ∙ no-fault k (ap firstNumber e ∙ (ap (λ (y : Fault). y .number) (head-of g) ∙ z)))))
+
+fault-number : (ks : List Known) (a : Fault) (l : List Fault) → gathered ownFaults ks ≡ a ∷ l → a .number ≡ 0 → ⊥
+unfolding gathered
+fault-number [] a l g z = absurd (omega (arith, ap length g))
+fault-number (k ∷ ks) a l g z = number-at k ks a l (ownFaults k) refl g (fault-number ks) z
+
+-- ---- the answer, for what the visit of the root gave
+module _ (i : ℕ) (ks : List Known) (r : FoundSoFar) (s : Agrees ks r noneFound) where
+  settled : (fs : List Fault) → gathered ownFaults ks ≡ fs → (Clean ks → length ks ≤ 382) → (gs : List Fault)
+      → gs ≡ fs ++ 8 at i if any lacks ks → Settles gs ks (indexAt i r)
+  unfolding indexAt
+  settled (a ∷ l) g h gs e =
+      let n = fault-number ks a l g in
+      let x : r .index ≡ refusedIndex (a .number) (a .place) = s .index ∙ absorb-fault ks empty refl a l g in
+      rw (e, x) (rw (ne-eqb (a .number) 0 n) refl)
+  settled [] g h gs e =
+      let x : r .index ≡ indexOf ks = s .index ∙ clean-index ks g (h g) in
+      let z : r .index .number ≡ 0 = ap (λ (y : Index). y .number) x ∙ index-number ks in
+      let t : r .lacking ≡ any lacks ks = s .lacking z in
+      by-cases (any lacks ks) (λ b. rw (e, eq-eqb (r .index .number) 0 z, t, b) refl) (λ b. rw (e, eq-eqb (r .index .number) 0 z, t, b) x)
+
+-- ---- a well-shaped file
+over-first : (k : Kind) → isOver File k noneSeen ≡ false
+unfolding isOver parentIn parents kindName orderOf bytes same
+over-first = everywhere (λ k. isOver File k noneSeen) (λ k. false) refl
+
+module _ (f : List ℕ) (short : length f ≤ 32768) (x : Node) (e : ℕ) (y : ElementAt f 8 (walk.rootAt f) x e) where
+  abbrev root-kind : Kind
+  root-kind = childAt f (walk.rootAt f) File
+
+  root-visit : Agrees (knownElements x) (visitFrom f 8 (walk.rootAt f) root-kind false noneFound) noneFound
+  unfolding kindName
+  root-visit =
+      rw (over-first (childAt f (walk.rootAt f) File)) at
+      (visits f short 8 (omega arith) (walk.rootAt f) x e y File [] noneSeen (seen-none File) noneFound)
+
+module _ (f : List ℕ) (short : length f ≤ 32768) (p : ℕ) (n : List ℕ) (l : List Attribute) (t : Items) (e : ℕ)
+    (y : ElementAt f 8 (walk.rootAt f) (node p n l t) e) where
+  abbrev X : Node
+  X = node p n l t
+
+  root-place : p ≡ walk.rootAt f
+  root-place = (element-law f 7 (walk.rootAt f) X e y) .0
+
+  root-is : childAt f (walk.rootAt f) File ≡ kindUnder File n
+  root-is = child-kind f 8 (walk.rootAt f) X e y File
+
+  -- the root is KVASER
+  root-known : oneOf (under (kindName File) .carried) n ≡ true → Settles (elementFaults X) (knownElements X) (indexed f)
+  unfolding elementFaults indexed kindName knownAt
+  root-known c =
+      let k : isCarried (childAt f (walk.rootAt f) File) ≡ true = ap isCarried root-is ∙ carried-carried File n c in
+      let z : eqb (length (knownElements X)) 0
+      ≡ false = rw c (ne-eqb (suc (length (knownIn (under n) [] t))) 0 (λ g. absurd (omega (arith, g)))) in
+      rw k
+      (settled (walk.rootAt f) (knownElements X) (visitFrom f 8 (walk.rootAt f) (root-kind f short X e y) false noneFound)
+      (root-visit f short X e y)
+      (gathered ownFaults (knownElements X)) refl (few X) (elementFaults X) (rw (z, root-place) refl))
+
+  -- it is not
+  root-other : oneOf (under (kindName File) .carried) n ≡ false → Settles (elementFaults X) (knownElements X) (indexed f)
+  unfolding elementFaults indexed kindName knownAt parentIn parents any bytes same isCarried
+  root-other c =
+      let k : childAt f (walk.rootAt f) File ≡ Unknown = root-is ∙ unknown-kind File n c refl in
+      rw (k, c, root-place) refl
+
+-- the index is what the file's faults say, and else its known elements
+pub index-law : (f : List ℕ) (x : Node) → length f ≤ 32768 → WellShaped f x → Settles (elementFaults x) (knownElements x) (indexed f)
+index-law f (node p n l t) short w =
+    let r = root-law f (node p n l t) w in
+    by-cases (oneOf (under (kindName File) .carried) n) (root-known f short p n l t (r .0) (r .1))
+    (root-other f short p n l t (r .0) (r .1))
+
+-- ---- the contract of `read_index`
+indexes-by : (f : List ℕ) (x : Node) → length f ≤ 32768 → WellShaped f x → (gs : List Fault) → elementFaults x ≡ gs → (i : Index)
+    → Settles gs (knownElements x) i → Indexes f i
+indexes-by f x short w [] e i s = rw s (Indexes.faultless x short w e)
+indexes-by f x short w (a ∷ l) e i s = rw s (Indexes.faulty x a l short w e)
+
+pub indexes-whole : (f : List ℕ) (i : Index) → Shaped f Whole → i ≡ indexed f → Indexes f i
+indexes-whole f i s e =
+    rw e (indexes-by f (s .1 .0) (s .0) (s .1 .1) (elementFaults (s .1 .0)) refl (indexed f) (index-law f (s .1 .0) (s .0) (s .1 .1)))
+
+pub indexes-long : (f : List ℕ) (i : Index) → Shaped f TooLong → i ≡ refusedIndex 1 32768 → Indexes f i
+indexes-long f i s e = rw e (Indexes.shapeless TooLong 1 32768 s refl)
+
+pub indexes-broken : (f : List ℕ) (i : Index) (p : ℕ) → Shaped f (Broken p) → i ≡ refusedIndex 2 p → Indexes f i
+indexes-broken f i p s e = rw e (Indexes.shapeless (Broken p) 2 p s refl)
+
+-- ---- it determines the index
+abbrev unsome : ℕ × ℕ → Option (ℕ × ℕ) → ℕ × ℕ
+unsome d none = d
+unsome d (some x) = x
+
+shape-one : (f : List ℕ) (a : Shape) (n p : ℕ) (x : Node) → length f ≤ 32768 → WellShaped f x → Shaped f a → shapeRefusal a ≡ some (n, p)
+    → ⊥
+shape-one f Whole n p x short w s e =
+    let h : suc n ≡ n = ap (λ o. unsome (suc n, p) o .0) e in
+    absurd (omega (arith, h))
+shape-one f TooLong n p x short w s e = absurd (omega (arith, s, short))
+shape-one f (Broken q) n p x short w s e = s .1 .0 x w
+
+cons-one : {a b : Fault} {l m : List Fault} → a ∷ l ≡ b ∷ m → refusedIndex (a .number) (a .place) ≡ refusedIndex (b .number) (b .place)
+cons-one e = ap (λ (y : Fault). refusedIndex (y .number) (y .place)) (head-of e)
+
+some-one : (a b : ℕ × ℕ) → some a ≡ some b → refusedIndex (a .0) (a .1) ≡ refusedIndex (b .0) (b .1)
+some-one a b e = ap (λ o. refusedIndex (unsome a o .0) (unsome a o .1)) e
+
+pub one-index : (f : List ℕ) (i j : Index) → Indexes f i → Indexes f j → i ≡ j
+one-index f i j (Indexes.shapeless a n p s e) (Indexes.shapeless b m q t g) =
+    some-one (n, p) (m, q) (sym e ∙ (ap shapeRefusal (one-answer f a b s t) ∙ g))
+one-index f i j (Indexes.shapeless a n p s e) (Indexes.faulty x b l short w g) = absurd (shape-one f a n p x short w s e)
+one-index f i j (Indexes.shapeless a n p s e) (Indexes.faultless x short w g) = absurd (shape-one f a n p x short w s e)
+one-index f i j (Indexes.faulty x b l short w g) (Indexes.shapeless a n p s e) = absurd (shape-one f a n p x short w s e)
+one-index f i j (Indexes.faultless x short w g) (Indexes.shapeless a n p s e) = absurd (shape-one f a n p x short w s e)
+one-index f i j (Indexes.faulty x a l short w e) (Indexes.faulty y b m h v g) =
+    cons-one (sym e ∙ (ap elementFaults (one-doc f x y w v) ∙ g))
+one-index f i j (Indexes.faulty x a l short w e) (Indexes.faultless y h v g) =
+    absurd (omega (arith, ap length (sym e ∙ (ap elementFaults (one-doc f x y w v) ∙ g))))
+one-index f i j (Indexes.faultless x short w e) (Indexes.faulty y b m h v g) =
+    absurd (omega (arith, ap length (sym e ∙ (ap elementFaults (one-doc f x y w v) ∙ g))))
+one-index f i j (Indexes.faultless x short w e) (Indexes.faultless y h v g) =
+    ap (λ (z : Node). indexOf (knownElements z)) (one-doc f x y w v)

@@ -1,0 +1,2 @@
+-- What the contracts cite: code-shaped, tied to crates/file_rules/specs/Document.antt by proofs/Laws.antt.
+pub mod DocumentCode

@@ -1,9 +1,0 @@
-pub mod Marks
-pub mod Turns
-pub mod Insides
-pub mod Seens
-pub mod Absorbs
-pub mod Visits
-pub mod Few
-pub mod Laws
-pub mod Stood

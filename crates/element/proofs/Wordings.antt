@@ -1,0 +1,83 @@
+-- The fault of an element with its stray text aside, and with it.
+use Prim.Native.Nat.{ℕ}
+use native.Mathlib.Omega.{arith}
+use mathlib.Core.Path.{_≡_, refl, sym, _∙_}
+use mathlib.Core.List.{List}
+use mathlib.Core.Bool.{Bool, true, false, not, cond, _&&_, _||_}
+use Rattle.text.specs.Texts.{bytes, same}
+use Rattle.lists.proofs.Cases.{by-cases}
+use Rattle.walk.specs.WalkCode.{textAt, stray}
+use Rattle.schema.specs.declared.Kind.{Kind}
+use Rattle.schema.specs.SchemaCode.{kindName}
+use Rattle.schema.proofs.Every.{everywhere}
+use Rattle.element.specs.declared.Gathered.{Gathered}
+use Rattle.element.specs.ElementCode.{lacking, boundsCrossed, gatheredAt, badText, worded, misspelt, verdict, ownFault, tagFault}
+
+-- 5, 6 and 7 for a value, by their flags; t is for stray text
+numbered : Bool → Bool → Bool → Bool → ℕ
+numbered a b c t = cond a 5 (cond (b || t) 6 (cond c 7 0))
+
+stray-some : (a b c t : Bool) → (numbered a b c false ≡ 0 → ⊥) → numbered a b c t ≡ 0 → ⊥
+unfolding numbered
+stray-some true b c t h e = absurd (omega arith)
+stray-some false true c t h e = absurd (omega arith)
+stray-some false false true true h e = absurd (omega arith)
+stray-some false false true false h e = h e
+stray-some false false false true h e = absurd (omega arith)
+stray-some false false false false h e = h e
+
+stray-none : (a b c t : Bool) → numbered a b c false ≡ 0 → numbered a b c t ≡ cond t 6 0
+unfolding numbered
+stray-none true b c t e = absurd (omega arith)
+stray-none false true c t e = absurd (omega arith)
+stray-none false false true t e = absurd (omega arith)
+stray-none false false false true e = refl
+stray-none false false false false e = refl
+
+module _ (f : List ℕ) (i : ℕ) where
+  -- a text is bad if it is misspelt, or where none is read, if there is any
+  pub text-split : (kind : Kind) → badText kind f i ≡ cond (worded kind) (misspelt kind f i) (stray (textAt f i))
+  unfolding badText misspelt worded kindName bytes same
+  text-split = everywhere (λ k. badText k f i) (λ k. cond (worded k) (misspelt k f i) (stray (textAt f i))) refl
+
+  unread : (kind : Kind) → cond (worded kind) false (misspelt kind f i) ≡ false
+  unfolding misspelt worded kindName bytes same
+  unread = everywhere (λ k. cond (worded k) false (misspelt k f i)) (λ k. false) refl
+
+  pub worded-text : (kind : Kind) → true ≡ worded kind → misspelt kind f i ≡ badText kind f i
+  worded-text kind e = rw (text-split kind, ← e)
+
+  pub wordless-text : (kind : Kind) → false ≡ worded kind → stray (textAt f i) ≡ badText kind f i
+  wordless-text kind e = rw (text-split kind, ← e)
+
+  module _ (kind : Kind) where
+    abbrev g : Gathered
+    g = gatheredAt kind f i
+
+    module _ (e : false ≡ worded kind) where
+      tag-is : tagFault kind f i ≡ numbered (g .five || lacking kind (g .has)) (g .six || boundsCrossed kind (g .values)) (g .seven) false
+      unfolding tagFault verdict numbered
+      tag-is = let h : misspelt kind f i ≡ false = rw (← e) at (unread kind) in rw h
+
+      own-is : ownFault kind f i
+          ≡ numbered (g .five || lacking kind (g .has)) (g .six || boundsCrossed kind (g .values)) (g .seven) (stray (textAt f i))
+      unfolding ownFault verdict numbered
+      own-is = rw (← wordless-text kind e)
+
+    same-fault : true ≡ worded kind → ownFault kind f i ≡ tagFault kind f i
+    unfolding ownFault tagFault
+    same-fault e = rw (worded-text kind e)
+
+    -- where there is a fault without stray text, there is one with it
+    pub fault-some : (tagFault kind f i ≡ 0 → ⊥) → ownFault kind f i ≡ 0 → ⊥
+    fault-some h o =
+        by-cases (worded kind)
+        (λ t. h (sym (same-fault (sym t)) ∙ o))
+        (λ t. stray-some _ _ _ (stray (textAt f i)) (λ z. h (tag-is (sym t) ∙ z)) (sym (own-is (sym t)) ∙ o))
+
+    -- where there is none, the fault is stray text
+    pub fault-text : tagFault kind f i ≡ 0 → ownFault kind f i ≡ cond (not (worded kind) && stray (textAt f i)) 6 0
+    fault-text h =
+        by-cases (worded kind)
+        (λ t. same-fault (sym t) ∙ (h ∙ rw t))
+        (λ t. own-is (sym t) ∙ (stray-none _ _ _ (stray (textAt f i)) (sym (tag-is (sym t)) ∙ h) ∙ rw t))

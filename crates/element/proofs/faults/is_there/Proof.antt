@@ -1,0 +1,21 @@
+-- Made by tools/prove.py from answers/faults__is_there.txt: change that file, not this one.
+-- `element::faults::is_there` meets its contract.
+use borrow.Author.Needs.{needs}
+use Rattle.element.proofs.faults.is_there.Statement.{statement}
+use Rattle.element.proofs.faults.is_there.Tie as tie
+use mathlib.Core.Path.{_≡_, sym}
+use mathlib.Core.Bool.{false}
+use lib.ListN.{length, List·getD-eq-default}
+use native.Mathlib.Omega.{arith}
+
+array-read-result : tie.Need-array-read-result
+array-read-result c = search needs
+
+returns : tie.Need-returns
+returns c = search needs
+
+returns-2 : tie.Need-returns-2
+returns-2 c = let h : length (c .before .args .t1) ≡ 12 = search needs in sym (List·getD-eq-default (c .before .args .t1) false (omega (arith, h, c .if1 .left)))
+
+pub is-there-spec : {M : Type 1} → statement M
+is-there-spec = tie.close (tie.spec array-read-result returns returns-2)

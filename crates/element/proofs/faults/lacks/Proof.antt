@@ -1,0 +1,29 @@
+-- Made by tools/prove.py from answers/faults__lacks.txt: change that file, not this one.
+-- `element::faults::lacks` meets its contract.
+use borrow.Author.Needs.{needs}
+use Rattle.element.proofs.faults.lacks.Statement.{statement}
+use Rattle.element.proofs.faults.lacks.Tie as tie
+use mathlib.Core.Path.{_∙_}
+use Rattle.element.specs.ElementCode.{lacking}
+
+required-of-requires : tie.Need-required-of-requires
+required-of-requires c κs = search needs
+
+lacks-first-requires : tie.Need-lacks-first-requires
+lacks-first-requires c κs = search needs
+
+returns : tie.Need-returns
+unfolding lacking
+returns c = rw (← c .before .before .required-of .ensures, ← c .before .lacks-first .ensures, c .if1 .taken)
+
+is-unpaired-requires : tie.Need-is-unpaired-requires
+is-unpaired-requires c κs = search needs
+
+returns-2 : tie.Need-returns-2
+unfolding lacking
+returns-2 c = c .is-unpaired .ensures ∙ rw (← c .before .before .before .required-of .ensures, ← c .before .before .lacks-first .ensures, c .before .if1 .left)
+
+pub lacks-spec : {M : Type 1} → statement M
+lacks-spec =
+    tie.close
+    (tie.spec required-of-requires lacks-first-requires returns is-unpaired-requires returns-2)

@@ -1,2 +1,0 @@
--- Serves the contracts of the inner functions.
-pub mod Steps

@@ -1,2 +1,0 @@
--- `Loads` is the theorem.
-pub mod Loads

@@ -1,0 +1,2 @@
+-- Laws of the definitions alone.
+pub mod ElementLaws

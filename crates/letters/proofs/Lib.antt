@@ -1,2 +1,0 @@
--- Laws that the kinds of bytes with more than one test need.
-pub mod Chains

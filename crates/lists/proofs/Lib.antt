@@ -1,0 +1,4 @@
+-- Cases: a test and what it tells. Parts: flags, fuel, parts that are lent. Fills: a list that a loop fills from the front.
+pub mod Cases
+pub mod Parts
+pub mod Fills

@@ -1,0 +1,2 @@
+-- Functions of lists that the definitions above share.
+pub mod Lists

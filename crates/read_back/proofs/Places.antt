@@ -1,0 +1,293 @@
+-- Every number and place that `convert` answers fits in 32 bits: a place is an offset in the file or a number of words.
+use Prim.Native.Nat.{ℕ, suc, _+_, _*_, _^_, _≤_, _<_}
+use native.Mathlib.Omega.{arith}
+use native.Mathlib.Nat.{suc-mul}
+use mathlib.Core.Path.{_≡_, refl, ap, subst}
+use mathlib.Core.Option.{Option, none, some}
+use mathlib.Core.List.{List, [], _∷_, _++_, map, head-eq-of-cons-eq}
+use mathlib.Core.Bool.{Bool, true, false, _&&_, _||_}
+use lib.Dec.{leb, ltb, eqb}
+use lib.ListN.{length, length-append, length-map}
+use borrow.Author.Tests.{leb-true}
+use Rattle.text.specs.Texts.{same}
+use Rattle.lists.proofs.Cases.{by-cases}
+use Rattle.shape.specs.declared.Shape.{Shape}
+use Rattle.shape.specs.declared.Shape.the-variants.{Whole, TooLong, Broken}
+use Rattle.shape.specs.Shape.{Node, node, WellShaped, Shaped, shapeRefusal}
+use Rattle.walk.specs.WalkCode.{rootAt}
+use Rattle.walk.proofs.WalkLaws.{root-law, element-law}
+use Rattle.records.specs.Records.{PlanStatement, triggerWords, filterWords, actionWord, statementWords, timeoutWord, triggerIn, filterIn}
+use Rattle.code.specs.Code.{soundCode}
+use Rattle.loader.specs.Plan.{Plan, wordsOf, statementIn, inRange}
+use Rattle.loader.proofs.RecordLaws.{cause-long}
+use Rattle.schema.specs.Schema.{oneOf, under, rulesOf}
+use Rattle.grammar.specs.declared.Verdict.{Verdict}
+use Rattle.grammar.specs.declared.Verdict.the-variants as verdicts
+use Rattle.grammar.specs.declared.Compiled.{Compiled}
+use Rattle.grammar.specs.Outcome.{verdictRefusal}
+use Rattle.file_rules.specs.Element.{Known, Fault, _at_if_, worthBy, isBad, isNotCarried, textOf, tooMany, misfit, crossed, misworded, ownFaults}
+use Rattle.file_rules.specs.Reading.{is}
+use Rattle.file_rules.specs.Document.{knownElements, placeOf, lacks, elementFaults}
+use Rattle.document.proofs.Stood.{Stood, All, all-stood}
+use Rattle.file_rules.specs.Tables.{kept, isIn, within, nameOf, expressionsOf, tablesOf, usedNames, gap, channelNamed, channelsIn, tableFaults}
+use Rattle.tables.proofs.Nested.{nested-known, all-mapped, all-within, all-kept}
+use Rattle.converter.specs.declared.Converted.the-variants.{Words, Refused}
+use Rattle.converter.specs.Converter.{planFor, wordsFor, faultOf, expressionFaults, faults, GivesAll, Converts}
+use Rattle.read_back.proofs.Takes.{in-range, no-faults}
+use Rattle.lists.specs.Lists.{any, all, gathered}
+use Rattle.lists.proofs.Parts.{and-left, and-right}
+
+-- ---- faults of the numbers 1 to 13, at a place up to t
+abbrev pub Low : ℕ → Fault → Type 0
+Low t a = (1 ≤ a .number) × (a .number ≤ 13) × (a .place ≤ t)
+
+abbrev pub Lows : ℕ → List Fault → Type 0
+Lows t [] = Unit {0}
+Lows t (a ∷ l) = Low t a × Lows t l
+
+module _ (t : ℕ) where
+  low-if : (n p : ℕ) (b : Bool) → 1 ≤ n → n ≤ 13 → p ≤ t → Lows t (n at p if b)
+  low-if n p true o h g = ((o, h, g), tt)
+  low-if n p false o h g = tt
+
+  low-both : (l m : List Fault) → Lows t l → Lows t m → Lows t (l ++ m)
+  low-both [] m h g = g
+  low-both (a ∷ l) m h g = (h .0, low-both l m (h .1) g)
+
+  low-all : (f : Known → List Fault) (ks : List Known) → All (λ k. Lows t (f k)) ks → Lows t (gathered f ks)
+  unfolding gathered
+  low-all f [] y = tt
+  low-all f (k ∷ ks) y = low-both (f k) (gathered f ks) (y .0) (low-all f ks (y .1))
+
+  abbrev Placed : Known → Type 0
+  Placed k = k .place ≤ t
+
+  own-low : (k : Known) → Placed k → Lows t (ownFaults k)
+  unfolding ownFaults
+  own-low k h =
+      let bad = any (λ a. isBad (worthBy (rulesOf (k .name)) a)) (k .attributes) || crossed k || misworded k in
+      let odd = any (λ a. isNotCarried (worthBy (rulesOf (k .name)) a)) (k .attributes) in
+      by-cases (oneOf (k .parent .barred) (k .name))
+      (λ b. rw b (low-if 7 (k .place) true (omega arith) (omega arith) h))
+      (λ b. rw b
+      (low-both (4 at k .place if tooMany k) (5 at k .place if misfit k ++ (6 at k .place if bad ++ 7 at k .place if odd))
+      (low-if 4 (k .place) (tooMany k) (omega arith) (omega arith) h)
+      (low-both (5 at k .place if misfit k) (6 at k .place if bad ++ 7 at k .place if odd)
+      (low-if 5 (k .place) (misfit k) (omega arith) (omega arith) h)
+      (low-both (6 at k .place if bad) (7 at k .place if odd) (low-if 6 (k .place) bad (omega arith) (omega arith) h)
+      (low-if 7 (k .place) odd (omega arith) (omega arith) h)))))
+
+  used-low : (earlier : List (List ℕ)) (ks : List Known) → All Placed ks → Lows t (usedNames earlier ks)
+  unfolding usedNames
+  used-low earlier [] y = tt
+  used-low earlier (k ∷ ks) y =
+      let b = any (same (nameOf k)) earlier in
+      low-both (9 at k .place if b) (usedNames (earlier ++ (nameOf k ∷ [])) ks) (low-if 9 (k .place) b (omega arith) (omega arith) (y .0))
+      (used-low (earlier ++ (nameOf k ∷ [])) ks (y .1))
+
+  placed-kept : (p : Known → Bool) (ks : List Known) → All Placed ks → All Placed (kept p ks)
+  placed-kept p ks y = all-mapped (λ k. (p k ≡ true) × Placed k) Placed (λ k z. z .1) (kept p ks) (all-kept Placed p ks y)
+
+  verdict-low : (v : Verdict) (p : ℕ) → p ≤ t → Lows t (faultOf (verdictRefusal v) p)
+  verdict-low verdicts.Good p h = tt
+  verdict-low verdicts.Broken p h = ((omega arith, omega arith, h), tt)
+  verdict-low verdicts.Unknown p h = ((omega arith, omega arith, h), tt)
+
+  -- ---- all faults of a document whose elements stand up to t
+  module _ (x : Node) (root : placeOf x ≤ t) (placed : All Placed (knownElements x)) where
+    abbrev ks : List Known
+    ks = knownElements x
+
+    pub element-low : Lows t (elementFaults x)
+    unfolding elementFaults
+    element-low =
+        low-both (3 at placeOf x if eqb (length ks) 0) (gathered ownFaults ks ++ 8 at placeOf x if any lacks ks)
+        (low-if 3 (placeOf x) (eqb (length ks) 0) (omega arith) (omega arith) root)
+        (low-both (gathered ownFaults ks) (8 at placeOf x if any lacks ks)
+        (low-all ownFaults ks (all-mapped Placed (λ k. Lows t (ownFaults k)) own-low ks placed))
+        (low-if 8 (placeOf x) (any lacks ks) (omega arith) (omega arith) root))
+
+    pub table-low : Lows t (tableFaults ks)
+    unfolding tableFaults
+    table-low =
+        let cs = channelsIn ks in
+        let bus : Known → List Fault = λ k. 10 at k .place if gap (length cs) cs in
+        let channel : Known → List Fault = λ k. 10 at k .place if any (leb (length cs)) (channelNamed k) in
+        let triggers = kept (isIn "TRIGGERS") ks in
+        let can = kept (is "CAN_BUS") ks in
+        low-both (usedNames [] triggers) (gathered bus can ++ gathered channel ks)
+        (used-low [] triggers (placed-kept (isIn "TRIGGERS") ks placed))
+        (low-both (gathered bus can) (gathered channel ks)
+        (low-all bus can (all-mapped Placed (λ k. Lows t (bus k))
+        (λ k z. low-if 10 (k .place) (gap (length cs) cs) (omega arith) (omega arith) z) can (placed-kept (is "CAN_BUS") ks placed)))
+        (low-all channel ks (all-mapped Placed (λ k. Lows t (channel k))
+        (λ k z. low-if 10 (k .place) (any (leb (length cs)) (channelNamed k)) (omega arith) (omega arith) z) ks placed)))
+
+    pub expression-low : (c : List ℕ → Compiled) → Lows t (expressionFaults c ks)
+    unfolding expressionFaults
+    expression-low c =
+        let one : Known → List Fault = λ e. faultOf (verdictRefusal (c (textOf e) .verdict)) (e .place) in
+        let inner : Known → List Fault = λ k. gathered one (expressionsOf k) in
+        let h : All (λ k. All Placed (within k)) ks = all-within Placed (under []) ks (nested-known x) placed in
+        low-all inner (kept (is "STATEMENT") ks)
+        (all-mapped (λ k. (is "STATEMENT" k ≡ true) × All Placed (within k)) (λ k. Lows t (inner k))
+        (λ k z. low-all one (expressionsOf k) (all-mapped Placed (λ e. Lows t (one e))
+        (λ e g. verdict-low (c (textOf e) .verdict) (e .place) g) (expressionsOf k) (placed-kept (is "EXPRESSION") (within k) (z .1))))
+        (kept (is "STATEMENT") ks) (all-kept (λ k. All Placed (within k)) (is "STATEMENT") ks h))
+
+-- ---- the elements of a file stand in it
+root-place : (s : List ℕ) (x : Node) → WellShaped s x → placeOf x ≤ length s
+root-place s (node p n l i) w =
+    let r = root-law s (node p n l i) w in
+    let g = (element-law s 7 (rootAt s) (node p n l i) (r .0) (r .1)) .0 in
+    omega (arith, g, r .1 .before, r .1 .within)
+
+known-places : (s : List ℕ) (x : Node) → WellShaped s x → All (λ k. k .place ≤ length s) (knownElements x)
+known-places s x w =
+    all-mapped (Stood s) (λ k. k .place ≤ length s) (λ k z. let b = z .element .before in let e = z .element .within in omega (arith, b, e))
+    (knownElements x) (all-stood s x w)
+
+-- every fault of the elements, the tables and the expressions stands in the file
+pub in-file : (s : List ℕ) (x : Node) → WellShaped s x → (c : List ℕ → Compiled)
+    → Lows (length s) (elementFaults x) × Lows (length s) (tableFaults (knownElements x))
+    × Lows (length s) (expressionFaults c (knownElements x))
+in-file s x w c =
+    let root = root-place s x w in
+    let placed = known-places s x w in
+    (element-low (length s) x root placed, table-low (length s) x root placed, expression-low (length s) x root placed c)
+
+low-up : (t u : ℕ) → t ≤ u → (l : List Fault) → Lows t l → Lows u l
+low-up t u h [] y = tt
+low-up t u h (a ∷ l) y = ((y .0 .0, y .0 .1, let g = y .0 .2 in omega (arith, g, h)), low-up t u h l (y .1))
+
+-- ---- a plan in range has at most 1,590 words
+row-top : {X : Type 0} (words : X → List ℕ) (ok : X → Bool) (k : ℕ) → ((x : X) → ok x ≡ true → length (words x) ≤ k) → (xs : List X)
+    → all ok xs ≡ true → length (gathered words xs) ≤ length xs * k
+unfolding gathered all
+row-top words ok k h [] e = omega arith
+row-top words ok k h (x ∷ xs) e =
+    let g = h x (and-left (ok x) (all ok xs) e) in
+    let r = row-top words ok k h xs (and-right (ok x) (all ok xs) e) in
+    omega (arith, length-append (words x) (gathered words xs), g, r, suc-mul (length xs) k)
+
+statement-top : (n : ℕ) (s : PlanStatement) → statementIn n s ≡ true → length (statementWords s) ≤ 73
+unfolding statementIn
+statement-top n s h =
+    let a =
+    and-left (leb (s .post) 1000000000 && leb (length (s .actions)) 6 && leb 1 (length (s .code)) && leb (length (s .code)) 64)
+    (soundCode n (s .code)) h in
+    let b = and-right (leb (s .post) 1000000000 && leb (length (s .actions)) 6 && leb 1 (length (s .code))) (leb (length (s .code)) 64) a in
+    let c = and-left (leb (s .post) 1000000000 && leb (length (s .actions)) 6 && leb 1 (length (s .code))) (leb (length (s .code)) 64) a in
+    let d =
+    and-right (leb (s .post) 1000000000) (leb (length (s .actions)) 6)
+    (and-left (leb (s .post) 1000000000 && leb (length (s .actions)) 6) (leb 1 (length (s .code))) c) in
+    let code = leb-true (length (s .code)) 64 b in
+    let actions = leb-true (length (s .actions)) 6 d in
+    omega (arith, length-append (map actionWord (s .actions)) (s .code), length-map (s .actions) actionWord, code, actions)
+
+-- the parts of the loader's test
+abbrev Ranges : Plan → Type 0
+Ranges p =
+    (length (p .triggers) ≤ 32) × (length (p .filters) ≤ 32) × (length (p .statements) ≤ 16)
+    × (all (triggerIn (p .channels)) (p .triggers) ≡ true)
+    × (all (filterIn (2 ^ p .channels)) (p .filters) ≡ true) × (all (statementIn (length (p .triggers))) (p .statements) ≡ true)
+
+last-six : (a b c d e f g h : Bool) → (a && b && c && d && e && f && g && h) ≡ true
+    → (c ≡ true) × (d ≡ true) × (e ≡ true) × (f ≡ true) × (g ≡ true) × (h ≡ true)
+last-six a b c d e f g h q =
+    let r = and-left (a && b && c && d && e && f && g) h q in
+    let s = and-left (a && b && c && d && e && f) g r in
+    let t = and-left (a && b && c && d && e) f s in
+    let u = and-left (a && b && c && d) e t in (
+      and-right (a && b) c (and-left (a && b && c) d u),
+      and-right (a && b && c) d u,
+      and-right (a && b && c && d) e t,
+      and-right (a && b && c && d && e) f s,
+      and-right (a && b && c && d && e && f) g r,
+      and-right (a && b && c && d && e && f && g) h q,
+    )
+
+ranges : (p : Plan) → inRange p ≡ true → Ranges p
+unfolding inRange
+ranges p h =
+    let r =
+    last-six (leb 1 (p .channels)) (leb (p .channels) 5) (leb (length (p .triggers)) 32) (leb (length (p .filters)) 32)
+    (leb (length (p .statements)) 16)
+    (all (triggerIn (p .channels)) (p .triggers)) (all (filterIn (2 ^ p .channels)) (p .filters))
+    (all (statementIn (length (p .triggers))) (p .statements)) h in (
+      leb-true (length (p .triggers)) 32 (r .0),
+      leb-true (length (p .filters)) 32 (r .1),
+      leb-true (length (p .statements)) 16 (r .2),
+      r .3,
+      r .4,
+      r .5,
+    )
+
+pub plan-top : (p : Plan) → inRange p ≡ true → length (wordsOf p) ≤ 1590
+unfolding wordsOf
+plan-top p h =
+    let r = ranges p h in
+    let triggers = gathered triggerWords (p .triggers) in
+    let filters = gathered filterWords (p .filters) in
+    let statements = gathered statementWords (p .statements) in
+    let a =
+    row-top triggerWords (triggerIn (p .channels)) 6
+    (λ t z. let g = cause-long (timeoutWord (t .timeout)) (t .cause) in omega (arith, g)) (p .triggers) (r .3) in
+    let b = row-top filterWords (filterIn (2 ^ p .channels)) 7 (λ f z. omega arith) (p .filters) (r .4) in
+    let c = row-top statementWords (statementIn (length (p .triggers))) 73 (statement-top (length (p .triggers))) (p .statements) (r .5) in
+    omega (arith, length-append triggers (filters ++ statements), length-append filters statements, a, b, c, r .0, r .1, r .2)
+
+-- ---- the first fault
+first-low : (t : ℕ) (es ts cs ls : List Fault) → Lows t es → Lows t ts → Lows t cs → (es ≡ [] → ts ≡ [] → cs ≡ [] → Lows t ls)
+    → (a : Fault) (l : List Fault) → es ++ (ts ++ (cs ++ ls)) ≡ a ∷ l → Low t a
+first-low t (b ∷ es) ts cs ls x y z w a l e = subst (Low t) (head-eq-of-cons-eq e) (x .0)
+first-low t [] (b ∷ ts) cs ls x y z w a l e = subst (Low t) (head-eq-of-cons-eq e) (y .0)
+first-low t [] [] (b ∷ cs) ls x y z w a l e = subst (Low t) (head-eq-of-cons-eq e) (z .0)
+first-low t [] [] [] (b ∷ ls) x y z w a l e = subst (Low t) (head-eq-of-cons-eq e) ((w refl refl refl) .0)
+first-low t [] [] [] [] x y z w a l e = absurd (omega (arith, ap length e))
+
+fault-low : (s : List ℕ) (x : Node) → length s ≤ 32768 → WellShaped s x → (c : List ℕ → Compiled) → GivesAll x c
+    → (room : ℕ) (a : Fault) (l : List Fault) → faults c room x ≡ a ∷ l → Low 32768 a
+unfolding faults
+fault-low s x short w c g room a l q =
+    let es = elementFaults x in
+    let ts = tableFaults (knownElements x) in
+    let cs = expressionFaults c (knownElements x) in
+    let n = length (wordsFor c x) in
+    let y = in-file s x w c in
+    let up : (fs : List Fault) → Lows (length s) fs → Lows 32768 fs = low-up (length s) 32768 short in
+    first-low 32768 es ts cs (13 at n if ltb room n) (up es (y .0)) (up ts (y .1)) (up cs (y .2))
+    (λ e h v. let m = plan-top (planFor c (tablesOf (knownElements x))) (in-range x e h c g v) in
+    low-if 32768 13 n (ltb room n) (omega arith) (omega arith) (omega (arith, m))) a l q
+
+-- ---- refusals 1 and 2
+abbrev pairIn : ℕ × ℕ → Option (ℕ × ℕ) → ℕ × ℕ
+pairIn d none = d
+pairIn d (some y) = y
+
+shape-low : (s : List ℕ) (a : Shape) (n p : ℕ) → Shaped s a → shapeRefusal a ≡ some (n, p) → (1 ≤ n) × (n ≤ 13) × (p ≤ 32768)
+shape-low s Whole n p h e = let g : suc n ≡ n = ap (λ o. pairIn (suc n, p) o .0) e in absurd (omega (arith, g))
+shape-low s TooLong n p h e =
+    let g : 1 ≡ n = ap (λ o. pairIn (n, p) o .0) e in
+    let k : 32768 ≡ p = ap (λ o. pairIn (n, p) o .1) e in
+    (omega (arith, g), omega (arith, g), omega (arith, k))
+shape-low s (Broken q) n p h e =
+    let g : 2 ≡ n = ap (λ o. pairIn (n, p) o .0) e in
+    let k : q ≡ p = ap (λ o. pairIn (n, p) o .1) e in
+    (omega (arith, g), omega (arith, g), omega (arith, k, h .0, h .1 .1 .within))
+
+-- ---- what `convert` answers: refusals 1 to 13, at a place of a file or the length of a plan
+pub places : (s d : List ℕ) (n p : ℕ) (e : List ℕ) → Converts s d (Refused n p) e → (1 ≤ n) × (n ≤ 13) × (p ≤ 32768)
+places s d n p e (Converts.shapeless a m q h g) = shape-low s a n p h g
+places s d n p e (Converts.faulty x short w c g a l q) = fault-low s x short w c g (length d) a l q
+
+pub lengths : (s d : List ℕ) (n : ℕ) (e : List ℕ) → Converts s d (Words n) e → n ≤ 1590
+lengths s d n e (Converts.converted x short w c g q) =
+    let f = no-faults c (length d) x q in
+    plan-top (planFor c (tablesOf (knownElements x))) (in-range x (f .0) (f .1) c g (f .2))
+
+pub fits : (s d : List ℕ) (n p : ℕ) (e : List ℕ) → Converts s d (Refused n p) e → (n ≤ 13) × (p < 4294967296)
+fits s d n p e h = let g = places s d n p e h in (g .1, omega (arith, g .2))
+
+pub words-fit : (s d : List ℕ) (n : ℕ) (e : List ℕ) → Converts s d (Words n) e → n < 4294967296
+words-fit s d n e h = let g = lengths s d n e h in omega (arith, g)

@@ -1,0 +1,84 @@
+-- Made by tools/prove.py from answers/attributes__option_rule.txt: change that file, not this one.
+-- `schema::attributes::option_rule` meets its contract.
+use borrow.Author.Needs.{needs}
+use Rattle.schema.proofs.attributes.option_rule.Statement.{statement}
+use Rattle.schema.proofs.attributes.option_rule.Tie as tie
+use Prim.Native.Nat.{ℕ}
+use native.Mathlib.Omega.{arith}
+use mathlib.Core.Path.{sym, ap, _∙_}
+use Rattle.text.specs.Texts.{bytes}
+use Rattle.values.specs.declared.Sort.the-variants.{Unread}
+use Rattle.schema.specs.SchemaCode.{asking, askedFrom}
+
+slice-aggregate-same-text : tie.Need-slice-aggregate-same-text
+slice-aggregate-same-text c = search needs
+
+same-text-requires : tie.Need-same-text-requires
+same-text-requires c κs = search needs
+
+yes-no-requires : tie.Need-yes-no-requires
+yes-no-requires c κs = search needs
+
+returns : tie.Need-returns
+unfolding askedFrom bytes
+returns c = c .yes-no .ensures ∙ rw (sym (c .before .before .same-text .ensures) ∙ c .before .if1 .taken)
+
+slice-aggregate-same-text-2 : tie.Need-slice-aggregate-same-text-2
+slice-aggregate-same-text-2 c = search needs
+
+same-text-requires-2 : tie.Need-same-text-requires-2
+same-text-requires-2 c κs = search needs
+
+add-asks : tie.Need-add-asks
+add-asks c = search needs
+
+asks-requires : tie.Need-asks-requires
+asks-requires c κs = search needs
+
+returns-2 : tie.Need-returns-2
+unfolding askedFrom bytes
+returns-2 c = c .asks .ensures ∙ rw (sym (c .before .before .before .before .before .same-text .ensures) ∙ c .before .before .before .before .if1 .left, sym (c .before .before .same-text2 .ensures) ∙ c .before .if2 .taken)
+
+slice-aggregate-same-text-3 : tie.Need-slice-aggregate-same-text-3
+slice-aggregate-same-text-3 c = search needs
+
+same-text-requires-3 : tie.Need-same-text-requires-3
+same-text-requires-3 c κs = search needs
+
+add-asks-2 : tie.Need-add-asks-2
+add-asks-2 c = search needs
+
+asks-requires-2 : tie.Need-asks-requires-2
+asks-requires-2 c κs = search needs
+
+returns-3 : tie.Need-returns-3
+unfolding askedFrom bytes
+returns-3 c = c .asks2 .ensures ∙ rw (sym (c .before .before .before .before .before .before .before .before .same-text .ensures) ∙ c .before .before .before .before .before .before .before .if1 .left, sym (c .before .before .before .before .before .same-text2 .ensures) ∙ c .before .before .before .before .if2 .left, sym (c .before .before .same-text3 .ensures) ∙ c .before .if3 .taken) (ap (λ (i : ℕ). asking i Unread) (omega arith))
+
+asks-requires-3 : tie.Need-asks-requires-3
+asks-requires-3 c κs = search needs
+
+returns-4 : tie.Need-returns-4
+unfolding askedFrom bytes
+returns-4 c = c .asks3 .ensures ∙ rw (sym (c .before .before .before .before .before .before .before .before .same-text .ensures) ∙ c .before .before .before .before .before .before .before .if1 .left, sym (c .before .before .before .before .before .same-text2 .ensures) ∙ c .before .before .before .before .if2 .left, sym (c .before .before .same-text3 .ensures) ∙ c .before .if3 .left)
+
+pub option-rule-spec : {M : Type 1} → statement M
+option-rule-spec =
+    tie.close
+    (tie.spec
+    slice-aggregate-same-text
+    same-text-requires
+    yes-no-requires
+    returns
+    slice-aggregate-same-text-2
+    same-text-requires-2
+    add-asks
+    asks-requires
+    returns-2
+    slice-aggregate-same-text-3
+    same-text-requires-3
+    add-asks-2
+    asks-requires-2
+    returns-3
+    asks-requires-3
+    returns-4)

@@ -1,0 +1,27 @@
+-- What is told of an index is what each table's own fold over the entries gives.
+use Prim.Native.Nat.{ℕ}
+use mathlib.Core.Path.{_≡_, refl}
+use mathlib.Core.List.{List, [], _∷_}
+use Rattle.document.specs.declared.Entry.{Entry}
+use Rattle.document.specs.declared.Index.{Index}
+use Rattle.tables.specs.declared.rows.Told.{Told}
+use Rattle.tables.specs.RowsCode.{folded, entriesOf, nothingTold, tellHead, tellTrigger, tellName, tellFilter, tellDraft, tellEntry, told}
+
+module _ (f : List ℕ) where
+  abbrev pub parts : Told → List Entry → Told
+  parts t es = record {
+    head = folded (tellHead f) (t .head) es;
+    triggers = folded (tellTrigger f) (t .triggers) es;
+    names = folded (tellName f) (t .names) es;
+    filters = folded (tellFilter f) (t .filters) es;
+    drafts = folded (tellDraft f) (t .drafts) es;
+  }
+
+  folded-parts : (t : Told) (es : List Entry) → folded (tellEntry f) t es ≡ parts t es
+  unfolding folded tellEntry
+  folded-parts t [] = refl
+  folded-parts t (e ∷ es) = folded-parts (tellEntry f t e) es
+
+  pub told-parts : (x : Index) → told f x ≡ parts nothingTold (entriesOf x)
+  unfolding told
+  told-parts x = folded-parts nothingTold (entriesOf x)

@@ -1,0 +1,192 @@
+-- What the functions answer, for every input: one entry of an index after the other says what it says. The crate table_laws ties it to the
+-- tables of a document.
+use Prim.Native.Nat.{ℕ, _+_, _-_, _/_, _%_, _^_}
+use Prim.Native.String.{String}
+use mathlib.Core.List.{List, [], _∷_}
+use mathlib.Core.Bool.{Bool, true, false, cond, _&&_, _||_}
+use lib.Dec.{leb, ltb, eqb}
+use lib.ListN.{getD, set, take, replicate}
+use Rattle.text.specs.Texts.{bytes}
+use Rattle.records.specs.declared.Cause.the-variants.{Startup}
+use Rattle.records.specs.declared.Timeout.the-variants.{Forever}
+use Rattle.records.specs.declared.Trigger.{Trigger}
+use Rattle.records.specs.declared.Effect.the-variants.{Pass}
+use Rattle.records.specs.declared.Filter.{Filter}
+use Rattle.walk.specs.declared.Part.{Part}
+use Rattle.schema.specs.declared.Kind.{Kind}
+use Rattle.schema.specs.Schema.{oneOf, under}
+use Rattle.schema.specs.SchemaCode.{kindName}
+use Rattle.file_rules.specs.Element.{goodOf}
+use Rattle.element.specs.ElementCode.{isKind, gatheredAt, numbered, valueAt}
+use Rattle.document.specs.declared.Entry.{Entry}
+use Rattle.document.specs.declared.Index.{Index}
+use Rattle.element.specs.ReadingCode as reading
+use Rattle.writer.specs.declared.Triggers.{Triggers}
+use Rattle.writer.specs.declared.Filters.{Filters}
+use Rattle.writer.specs.declared.Actions.{Actions}
+use Rattle.tables.specs.declared.rows.Names.{Names}
+use Rattle.tables.specs.declared.rows.Draft.{Draft}
+use Rattle.tables.specs.declared.rows.Drafts.{Drafts}
+use Rattle.tables.specs.declared.rows.Head.{Head}
+use Rattle.tables.specs.declared.rows.Told.{Told}
+
+unfoldable pub folded : {A : Type 0} → (A → Entry → A) → A → List Entry → A
+folded step a [] = a
+folded step a (e ∷ es) = folded step (step a e) es
+
+abbrev pub entriesOf : Index → List Entry
+entriesOf x = take (x .count) (x .entries)
+
+-- a kind that the parent n carries
+abbrev pub isUnder : String → Kind → Bool
+isUnder n kind = oneOf (under (bytes n) .carried) (kindName kind)
+
+-- ---- triggers and their names
+abbrev pub noTrigger : Trigger
+noTrigger = record { cause = Startup; timeout = Forever }
+
+abbrev pub noTriggers : Triggers
+noTriggers = record { rows = replicate 32 noTrigger; count = 0 }
+
+unfoldable pub pushTrigger : Triggers → Trigger → Triggers
+pushTrigger t x = cond (ltb (t .count) 32) (record { rows = set (t .rows) (t .count) x; count = t .count + 1 }) t
+
+unfoldable pub tellTrigger : List ℕ → Triggers → Entry → Triggers
+tellTrigger f t e =
+    cond (isUnder "TRIGGERS" (e .kind)) (pushTrigger t (reading.triggerFrom (e .kind) (gatheredAt (e .kind) f (e .place)))) t
+
+abbrev pub noNames : Names
+noNames = record { starts = replicate 32 0; ends = replicate 32 0; places = replicate 32 0; count = 0 }
+
+unfoldable pub pushName : Names → Part → ℕ → Names
+pushName n p place =
+    cond (ltb (n .count) 32)
+    (record {
+      starts = set (n .starts) (n .count) (p .from);
+      ends = set (n .ends) (n .count) (p .to);
+      places =
+          set (n .places) (n .count) place;
+      count = n .count + 1;
+    }) n
+
+unfoldable pub tellName : List ℕ → Names → Entry → Names
+tellName f n e = cond (isUnder "TRIGGERS" (e .kind)) (pushName n (valueAt (bytes "name") f (e .place)) (e .place)) n
+
+-- ---- filters; a CHANNEL belongs to the filter before it
+abbrev pub noFilter : Filter
+noFilter = record { effect = Pass; mask = 0; ext = false; lower = 0; upper = 0; shortest = 0; longest = 0 }
+
+abbrev pub noFilters : Filters
+noFilters = record { rows = replicate 32 noFilter; count = 0 }
+
+unfoldable pub pushFilter : Filters → Filter → Filters
+pushFilter t x = cond (ltb (t .count) 32) (record { rows = set (t .rows) (t .count) x; count = t .count + 1 }) t
+
+-- one channel more in a mask of five
+unfoldable pub withChannel : ℕ → ℕ → ℕ
+withChannel m c = cond (ltb c 5 && ltb m 32) (cond (eqb (m / 2 ^ c % 2) 1) m (m + 2 ^ c)) m
+
+abbrev pub masked : Filter → ℕ → Filter
+masked x c =
+    record {
+      effect = x .effect;
+      mask = withChannel (x .mask) c;
+      ext = x .ext;
+      lower = x .lower;
+      upper = x .upper;
+      shortest =
+          x .shortest;
+      longest = x .longest;
+    }
+
+unfoldable pub addChannel : Filters → ℕ → Filters
+addChannel t c =
+    cond (leb 1 (t .count) && leb (t .count) 32)
+    (record { rows = set (t .rows) (t .count - 1) (masked (getD (t .rows) (t .count - 1) noFilter) c); count = t .count }) t
+
+unfoldable pub tellFilter : List ℕ → Filters → Entry → Filters
+tellFilter f t e =
+    cond (isUnder "FILTERS" (e .kind)) (pushFilter t (reading.filterFrom 0 (e .kind) (gatheredAt (e .kind) f (e .place))))
+    (cond (isKind (e .kind) "CHANNEL") (addChannel t (goodOf (numbered f (e .place)))) t)
+
+-- ---- statements; EXPRESSION and actions belong to the STATEMENT before them
+abbrev pub noActions : Actions
+noActions = record { words = replicate 6 0; count = 0 }
+
+abbrev pub emptyDraft : ℕ → Draft
+emptyDraft post = record { post = post; actions = noActions; text = 0 }
+
+abbrev pub noDraft : Draft
+noDraft = record { post = 0; actions = noActions; text = 0 }
+
+abbrev pub noDrafts : Drafts
+noDrafts = record { rows = replicate 16 noDraft; count = 0 }
+
+unfoldable pub pushDraft : Drafts → ℕ → Drafts
+pushDraft t post =
+    cond (ltb (t .count) 16)
+    (record { rows = set (t .rows) (t .count) (record { post = post; actions = noActions; text = 0 }); count = t .count + 1 }) t
+
+unfoldable pub pushAction : Actions → ℕ → Actions
+pushAction a w = cond (ltb (a .count) 6) (record { words = set (a .words) (a .count) w; count = a .count + 1 }) a
+
+-- the last statement changed
+unfoldable pub changeLast : (Draft → Draft) → Drafts → Drafts
+changeLast g t =
+    cond (leb 1 (t .count) && leb (t .count) 16)
+    (record { rows = set (t .rows) (t .count - 1) (g (getD (t .rows) (t .count - 1) noDraft)); count = t .count }) t
+
+abbrev pub withText : ℕ → Draft → Draft
+withText p d = record { post = d .post; actions = d .actions; text = p }
+
+abbrev pub withAction : ℕ → Draft → Draft
+withAction w d = record { post = d .post; actions = pushAction (d .actions) w; text = d .text }
+
+abbrev pub actionFrom : Kind → ℕ
+actionFrom kind = cond (isKind kind "ACTION_START_LOG") 1 (cond (isKind kind "ACTION_STOP_LOG") 2 3)
+
+-- what an element within a STATEMENT, EXPRESSION or an action, changes in it
+unfoldable pub withPart : Kind → ℕ → Draft → Draft
+withPart kind place d = cond (isKind kind "EXPRESSION") (withText place d) (withAction (actionFrom kind) d)
+
+unfoldable pub tellDraft : List ℕ → Drafts → Entry → Drafts
+tellDraft f t e =
+    cond (isKind (e .kind) "STATEMENT") (pushDraft t (reading.slotValue (e .kind) 1 f (e .place)))
+    (cond (isKind (e .kind) "EXPRESSION") (changeLast (withText (e .place)) t)
+    (cond (isUnder "ACTIONS" (e .kind)) (changeLast (withAction (actionFrom (e .kind))) t) t))
+
+-- ---- PARAMETERS and MODE
+abbrev pub noHead : Head
+noHead = record { channels = 0; present = replicate 5 false; all = false }
+
+unfoldable pub tellHead : List ℕ → Head → Entry → Head
+tellHead f h e =
+    cond (isKind (e .kind) "PARAMETERS")
+    (record {
+      channels = cond (ltb (h .channels) 5) (h .channels + 1) (h .channels);
+      present =
+          set (h .present) (reading.slotValue (e .kind) 0 f (e .place)) true;
+      all = h .all;
+    })
+    (cond (isKind (e .kind) "MODE") (record {
+      channels = h .channels;
+      present = h .present;
+      all = h .all
+          || eqb (reading.slotValue (e .kind) 0 f (e .place)) 1;
+    }) h)
+
+-- ---- all of it
+abbrev pub nothingTold : Told
+nothingTold = record { head = noHead; triggers = noTriggers; names = noNames; filters = noFilters; drafts = noDrafts }
+
+unfoldable pub tellEntry : List ℕ → Told → Entry → Told
+tellEntry f t e = record {
+  head = tellHead f (t .head) e;
+  triggers = tellTrigger f (t .triggers) e;
+  names = tellName f (t .names) e;
+  filters = tellFilter f (t .filters) e;
+  drafts = tellDraft f (t .drafts) e;
+}
+
+unfoldable pub told : List ℕ → Index → Told
+told f x = folded (tellEntry f) nothingTold (entriesOf x)

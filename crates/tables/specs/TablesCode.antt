@@ -1,0 +1,73 @@
+-- What the functions answer, for every input. Code-shaped; the crate table_laws ties it to the definitions. Nothing here has to be
+-- believed.
+use Prim.Native.Nat.{ℕ}
+use mathlib.Core.Path.{_≡_}
+use mathlib.Core.List.{List, [], _∷_, _++_}
+use mathlib.Core.Bool.{Bool, false, not, cond, _&&_}
+use lib.Dec.{leb, eqb}
+use lib.ListN.{take}
+use Rattle.text.specs.Texts.{bytes, same}
+use Rattle.grammar.specs.Lex.{namesIn}
+use Rattle.schema.specs.declared.Kind.{Kind}
+use Rattle.file_rules.specs.Element.{goodOf}
+use Rattle.element.specs.ElementCode.{isKind, lacksFirst, numbered}
+use Rattle.element.specs.ReadingCode as reading
+use Rattle.document.specs.declared.Entry.{Entry}
+use Rattle.document.specs.declared.Index.{Index}
+use Rattle.document.specs.DocumentCode.{Indexes}
+use Rattle.tables.specs.declared.rows.Names.{Names}
+use Rattle.tables.specs.declared.rows.Head.{Head}
+use Rattle.tables.specs.declared.rows.Told.{Told}
+use Rattle.tables.specs.RowsCode.{entriesOf, isUnder, told}
+use Rattle.tables.specs.declared.Refusal.{Refusal}
+use Rattle.tables.specs.declared.Tables.{Tables}
+use Rattle.lists.specs.Lists.{any}
+
+abbrev pub refusedAt : ℕ → ℕ → Refusal
+refusedAt n p = record { number = n; place = p }
+
+-- ---- 9: a name that one of those before it is
+abbrev pub namesAt : List ℕ → Names → List (List ℕ)
+namesAt f n = namesIn f (take (n .count) (n .starts)) (take (n .count) (n .ends))
+
+unfoldable pub usedFrom : List (List ℕ) → List (List ℕ) → List ℕ → Refusal
+usedFrom earlier [] ps = refusedAt 0 0
+usedFrom earlier (n ∷ ns) [] = refusedAt 0 0
+usedFrom earlier (n ∷ ns) (p ∷ ps) = cond (any (same n) earlier) (refusedAt 9 p) (usedFrom (earlier ++ (n ∷ [])) ns ps)
+
+unfoldable pub nameFault : List ℕ → Names → Refusal
+nameFault f n = usedFrom [] (namesAt f n) (take (n .count) (n .places))
+
+-- ---- 10: the first entry for which p holds
+unfoldable pub firstWhere : (Entry → Bool) → List Entry → Refusal
+firstWhere p [] = refusedAt 0 0
+firstWhere p (e ∷ es) = cond (p e) (refusedAt 10 (e .place)) (firstWhere p es)
+
+unfoldable pub busFault : Head → Index → Refusal
+busFault h x = cond (lacksFirst (h .channels) (h .present)) (firstWhere (λ e. isKind (e .kind) "CAN_BUS") (entriesOf x)) (refusedAt 0 0)
+
+-- an entry names a channel that is not below n
+unfoldable pub isBeyond : List ℕ → ℕ → Entry → Bool
+isBeyond f n e =
+    cond (isKind (e .kind) "CHANNEL") (leb n (goodOf (numbered f (e .place))))
+    (cond (isUnder "TRIGGERS" (e .kind) && not (isKind (e .kind) "TRIGGER_STARTUP")) (leb n (reading.slotValue (e .kind) 2 f (e .place)))
+    false)
+
+unfoldable pub channelFault : List ℕ → Head → Index → Refusal
+channelFault f h x = firstWhere (isBeyond f (h .channels)) (entriesOf x)
+
+-- ---- the first of them
+abbrev pub orElse : Refusal → Refusal → Refusal
+orElse a b = cond (eqb (a .number) 0) b a
+
+unfoldable pub tableFault : List ℕ → Index → Told → Refusal
+tableFault f x t = orElse (nameFault f (t .names)) (orElse (busFault (t .head) x) (channelFault f (t .head) x))
+
+unfoldable pub tabled : List ℕ → Index → Tables
+tabled f x = record { fault = orElse (refusedAt (x .number) (x .place)) (tableFault f x (told f x)); told = told f x }
+
+-- the tables of a file, by its index
+pub record Tabled (f : List ℕ) (r : Tables) : Type 0 where
+  pub index : Index
+  pub indexes : Indexes f index
+  pub same-tables : r ≡ tabled f index

@@ -1,0 +1,55 @@
+-- Made by tools/prove.py from answers/runs__decl_end.txt: change that file, not this one.
+-- `text::runs::decl_end` meets its contract. The loop's invariant: from here the span ends where it ends from i.
+use Rattle.text.proofs.runs.decl_end.Statement.{statement}
+use Rattle.text.proofs.runs.decl_end.Tie as tie
+use Rattle.text.proofs.Spans.{span-more, span-here, span-end}
+use Rattle.text.specs.Kinds.{spanAt, isDecl}
+use lib.ListN.{length, drop}
+use Prim.Native.Nat.{_-_}
+use mathlib.Core.Path.{_≡_, refl, sym, _∙_}
+use borrow.Author.Needs.{needs}
+
+abbrev Inv-loop : tie.InvT-loop
+Inv-loop s i j₀ j = spanAt isDecl (drop j s) j ≡ spanAt isDecl (drop i s) i
+
+abbrev μ-loop : tie.MeasureT-loop
+μ-loop s i j₀ j = length s - j
+
+loop-holds : tie.Need-loop-holds Inv-loop μ-loop
+loop-holds c = refl
+
+shared-slice-read-b : tie.Need-shared-slice-read-b Inv-loop μ-loop
+shared-slice-read-b c = search needs
+
+is-decl-requires : tie.Need-is-decl-requires Inv-loop μ-loop
+is-decl-requires c κs = search needs
+
+add-j : tie.Need-add-j Inv-loop μ-loop
+add-j c = search needs
+
+loop-less : tie.Need-loop-less Inv-loop μ-loop
+loop-less c = search needs
+
+loop-again : tie.Need-loop-again Inv-loop μ-loop
+loop-again c = sym (span-more isDecl _ _ (c .before .before .before .loop-test .taken) (sym (c .before .is-decl .ensures) ∙ c .if1 .taken)) ∙ c .before .before .before .before .loop .inv
+
+returns : tie.Need-returns Inv-loop μ-loop
+returns c = sym (span-here isDecl _ _ (c .before .before .before .loop-test .taken) (sym (c .before .is-decl .ensures) ∙ c .if1 .left)) ∙ c .before .before .before .before .loop .inv
+
+returns-2 : tie.Need-returns-2 Inv-loop μ-loop
+returns-2 c = sym (span-end isDecl _ _ (c .loop-test .left)) ∙ c .before .loop .inv
+
+pub decl-end-spec : {M : Type 1} → statement M
+decl-end-spec =
+    tie.close
+    (tie.spec
+    Inv-loop
+    μ-loop
+    loop-holds
+    shared-slice-read-b
+    is-decl-requires
+    add-j
+    loop-less
+    loop-again
+    returns
+    returns-2)

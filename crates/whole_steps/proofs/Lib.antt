@@ -1,2 +1,0 @@
--- The last firings taken apart and put together.
-pub mod Parts

@@ -1,0 +1,2 @@
+mod TagsEnds
+mod CommentsEnds

@@ -1,0 +1,2 @@
+pub mod TagsCode
+pub mod CommentsCode
