@@ -50,6 +50,12 @@ def check(crate, *words):
     return r.stdout + r.stderr
 
 
+def generate(crate):
+    """The modules that the checker makes of the code: they say what is in reach."""
+    shutil.rmtree(generated(crate), ignore_errors=True)
+    check(crate, '--generated', generated(crate))
+
+
 def asked(said):
     """What the checker prints for each function without a proof file: the lines to write."""
     lines, i, found = said.split('\n'), 0, {}
@@ -169,7 +175,8 @@ def make(crate, fn, skeleton):
             unfolding, term = terms[key] if key else ('', '?' if hole else 'search needs')
             term = spelt(term, need, *in_reach.get(need, ({}, [])), keys)
             if term.startswith('λλ '): args, term = term[3:].split(' = ', 1); args += ' '
-            p = p.split('\n')[0] + '\n' + (f'unfolding {unfolding}\n' if unfolding else '') + f'{need} {args}= ' + term.replace('\n', '\n    ')
+            asks = re.sub(r'\s*\n\s*', ' ', re.sub(r',\s*\n\)', ')', re.sub(r'\(\s*\n\s*', '(', p[:m.start()].strip())))
+            p = asks + '\n' + (f'unfolding {unfolding}\n' if unfolding else '') + f'{need} {args}= ' + term.replace('\n', '\n    ')
         out.append(p)
     for k in terms:
         if k not in used: print(f'{fn}: no need is called {k}')
@@ -177,7 +184,7 @@ def make(crate, fn, skeleton):
     last = max(i for i, l in enumerate(lines) if l.startswith('use '))
     if any('search needs' in l for l in lines) and not any('Needs.{needs}' in l for l in lines + uses): uses.append('use borrow.Author.Needs.{needs}')
     top = [f'-- Made by tools/prove.py from answers/{fn}.txt: change that file, not this one.'] + heads
-    write(proof_of(crate, fn), '\n'.join(top + lines[:last + 1] + [u for u in uses if u not in lines] + [''] + '\n\n'.join(defs).split('\n') * bool(defs) + lines[last + 1:]).rstrip() + '\n')
+    write(proof_of(crate, fn), '\n'.join(top + lines[:last + 1] + [u for u in uses if u not in lines] + ([''] + '\n\n'.join(defs).split('\n') if defs else []) + lines[last + 1:]).rstrip() + '\n')
     print('wrote', proof_of(crate, fn))
 
 
@@ -186,12 +193,13 @@ def make_all(crate, fns):
     for fn in fns:
         if os.path.exists(proof_of(crate, fn)): aside[fn] = read(proof_of(crate, fn)); os.remove(proof_of(crate, fn))
     left = list(fns)
+    generate(crate)
     while left:
-        shutil.rmtree(generated(crate), ignore_errors=True)
-        said = check(crate, '--allow-holes', '--generated', generated(crate))
+        said = check(crate, '--allow-holes')
         found = asked(said)
         now = [fn for fn in left if fn in found]
         if not now: break
+        if any(not steps_of(crate, fn) for fn in now): generate(crate)
         for fn in now:
             if not os.path.exists(answers_of(crate, fn)): write(answers_of(crate, fn), f'-- `{fn.split("__")[-1]}` meets its contract.\n')
             make(crate, fn, found[fn])
@@ -209,5 +217,5 @@ if __name__ == '__main__':
     if words[0] == 'dev': show(check(words[1], '--allow-holes'))
     elif words[0] == 'make': make_all(words[1], words[2:])
     else:
-        if not os.path.isdir(generated(words[1])): check(words[1], '--allow-holes', '--generated', generated(words[1]))
+        generate(words[1])
         for need, (_, said) in reach(words[1], words[2]).items(): print(words[2], need, '|', ' '.join(s for _, s in said))

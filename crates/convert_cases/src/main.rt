@@ -41,12 +41,6 @@ fn say_number(before: &[u8], n: usize) {
     io::print_decimal(STDOUT, n as u64);
 }
 
-fn least(a: usize, b: usize) -> usize
-    ensures { λ r. ⌜ r ≡ min a b ⌝ }
-{
-    if a < b { a } else { b }
-}
-
 // The number that the digits spell, at most the room: a digit's low four bits are its worth.
 fn number(digits: &[u8]) -> usize
     ensures { λ r. ⌜ r ≤ 1600 ⌝ }
@@ -55,7 +49,7 @@ fn number(digits: &[u8]) -> usize
     let mut i = 0;
     while i < digits.len() {
         let d = digits[i] % 16;
-        n = least(n * 10 + d as usize, ROOM);
+        n = lists::least(n * 10 + d as usize, ROOM);
         i += 1;
     }
     n
@@ -67,7 +61,7 @@ fn find_text(s: &[u8], text: &[u8]) -> usize
 {
     let mut i = 0;
     while i < s.len() {
-        let e = i + least(text.len(), s.len() - i);
+        let e = i + lists::least(text.len(), s.len() - i);
         if texts::same_text(&s[i..e], text) {
             return i;
         }
@@ -89,7 +83,7 @@ fn put(text: &[u8], out: &mut [u8], at: usize) -> usize
     requires { ⌜ at ≤ length (now out) ⌝ }
     ensures { λ r. ⌜ r ≤ length (now (out .entry)) ⌝ }
 {
-    let n = least(text.len(), out.len() - at);
+    let n = lists::least(text.len(), out.len() - at);
     let e = at + n;
     bytes::copy(&text[..n], &mut out[at..e]);
     e
@@ -112,7 +106,7 @@ fn edit(file: &[u8], pair: &[u8], out: &mut [u8]) -> usize
     let a = bytes::scan::find(pair, 0, pair.len(), b'|');
     let b = behind(pair, a);
     let p = find_text(file, &pair[..a]);
-    let q = p + least(a, file.len() - p);
+    let q = p + lists::least(a, file.len() - p);
     splice(file, p, q, &pair[b..], out)
 }
 
@@ -131,7 +125,7 @@ fn edit_twice(file: &[u8], line: &[u8], out: &mut [u8]) -> usize
 }
 
 fn say_case(line: &[u8]) {
-    let n = least(line.len(), 100);
+    let n = lists::least(line.len(), 100);
     say(&line[..n]);
     if n < line.len() {
         say(b"..");
@@ -144,7 +138,7 @@ fn say_place(file: &[u8], p: usize) {
     if file.len() <= p {
         return;
     }
-    let e = p + least(file.len() - p, 24);
+    let e = p + lists::least(file.len() - p, 24);
     let end = bytes::scan::find(file, p, e, b'\n');
     say(b" ");
     say(&file[p..end]);
@@ -203,7 +197,7 @@ fn say_end(rest: &[u32]) {
 
 // The answer of n words, and the buffer that it came in.
 fn say_plan(n: usize, plan: &[u32], words: &[u32], how: u8) {
-    let m = least(n, plan.len());
+    let m = lists::least(n, plan.len());
     say_number(b"", n);
     say(b" words");
     say_words(&plan[..m], words, how);
@@ -315,7 +309,7 @@ fn cases(lines: &[u8], base: &[u8], words: &[u32], plan: &mut [u32]) {
     let mut i = 0;
     while i < lines.len() {
         let e = bytes::scan::find(lines, i, lines.len(), b'\n');
-        let r = least(room, plan.len());
+        let r = lists::least(room, plan.len());
         room = case(&lines[i..e], base, words, &mut plan[..r]);
         i = behind(lines, e);
     }
@@ -326,7 +320,7 @@ fn count_words(file: &[u8], plan: &mut [u32]) -> usize
     ensures { λ r. ⌜ r ≤ length (now (plan .entry)) ⌝ }
 {
     match convert_anew(file, plan) {
-        Converted::Words(n) => least(n, plan.len()),
+        Converted::Words(n) => lists::least(n, plan.len()),
         Converted::Refused(_, _) => 0,
     }
 }

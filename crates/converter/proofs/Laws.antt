@@ -23,10 +23,11 @@ use Rattle.writer.specs.declared.Written.the-variants.{Words, Short}
 use Rattle.writer.specs.SheetCode.{sheetWords, Writes}
 use Rattle.tables.specs.declared.rows.Told.{Told}
 use Rattle.tables.specs.RowsCode.{told}
-use Rattle.tables.specs.declared.Refusal.{Refusal}
+use Rattle.file_rules.specs.declared.Refusal.{Refusal}
 use Rattle.tables.specs.declared.Tables.{Tables}
 use Rattle.file_rules.specs.Tables.{tablesOf, tableFaults}
-use Rattle.tables.specs.TablesCode.{refusedAt, tableFault, tabled, Tabled}
+use Rattle.tables.specs.TablesCode.{tableFault, tabled, Tabled}
+use Rattle.file_rules.specs.RefusalCode.{refusedAt}
 use Rattle.tables.proofs.Laws.{reads-well}
 use Rattle.tables.proofs.Wanted.{firstOf, Reads}
 use Rattle.converter.specs.declared.statements.Composed.{Composed}
@@ -60,9 +61,9 @@ shape-number Whole n p e = let h : suc n ≡ n = ap (numberIn (suc n)) e in absu
 shape-number TooLong n p e = let h : 1 ≡ n = ap (numberIn n) e in omega (arith, h)
 shape-number (Broken q) n p e = let h : 2 ≡ n = ap (numberIn n) e in omega (arith, h)
 
-fault-first : (f : List ℕ) (x : Index) → 1 ≤ x .number → tabled f x .fault ≡ refusedAt (x .number) (x .place)
+fault-first : (f : List ℕ) (x : Index) → 1 ≤ x .fault .number → tabled f x .fault ≡ x .fault
 unfolding tabled
-fault-first f x h = rw (ne-eqb (x .number) 0 (λ z. absurd (omega (arith, z, h))))
+fault-first f x h = rw (ne-eqb (x .fault .number) 0 (λ z. absurd (omega (arith, z, h))))
 
 fault-then : (f : List ℕ) (ks : List Known) → tabled f (indexOf ks) .fault ≡ tableFault f (indexOf ks) (told f (indexOf ks))
 unfolding tabled indexOf
@@ -151,28 +152,28 @@ module _ (f : List ℕ) (t : Told) (k : Clear f t) (d : List ℕ) (m : Composed)
   faults-late cs e = faults-are (codes X) (length d) X [] [] cs (k .faultless) (k .tables) e
 
   stopped-by : (cs : List Fault) → expressionFaults (codes X) (knownElements X) ≡ cs → Composes cs m (allLines f X t (k .reads))
-      → (m .number ≡ 0 → ⊥) → Converts f d (answer.Refused (m .number) (m .place)) d
-  stopped-by [] e c h = absurd (h (ap (λ (y : Composed). y .number) c))
+      → (m .fault .number ≡ 0 → ⊥) → Converts f d (answer.Refused (m .fault .number) (m .fault .place)) d
+  stopped-by [] e c h = absurd (h (ap (λ (y : Composed). y .fault .number) c))
   stopped-by (a ∷ l) e c h =
       let g : Converts f d (answer.Refused (a .number) (a .place)) d =
       Converts.faulty X (k .short) (k .shaped) (codes X) (codes-given X) a (l ++ late) (faults-late (a ∷ l) e) in
-      subst (λ (n : ℕ). Converts f d (answer.Refused n (m .place)) d) (sym (c .0))
+      subst (λ (n : ℕ). Converts f d (answer.Refused n (m .fault .place)) d) (sym (c .0))
       (subst (λ (p : ℕ). Converts f d (answer.Refused (a .number) p) d) (sym (c .1)) g)
 
   composes-is : Composes (expressionFaults (codes X) (knownElements X)) m (allLines f X t (k .reads))
   composes-is = rw q (composed-is f X t (k .reads))
 
-  pub converts-stopped : (m .number ≡ 0 → ⊥) → Converts f d (answer.Refused (m .number) (m .place)) d
+  pub converts-stopped : (m .fault .number ≡ 0 → ⊥) → Converts f d (answer.Refused (m .fault .number) (m .fault .place)) d
   converts-stopped h = stopped-by (expressionFaults (codes X) (knownElements X)) refl composes-is h
 
   -- no expression is refused
   lines-by : (cs : List Fault) → expressionFaults (codes X) (knownElements X) ≡ cs → Composes cs m (allLines f X t (k .reads))
-      → m .number ≡ 0
+      → m .fault .number ≡ 0
       → (expressionFaults (codes X) (knownElements X) ≡ []) × (m .lines ≡ allLines f X t (k .reads))
   lines-by [] e c h = (e, ap (λ (y : Composed). y .lines) c)
   lines-by (a ∷ l) e c h = absurd (omega (arith, c .0, c .2, h))
 
-  module _ (h : m .number ≡ 0) (s : Sheet) (e : s ≡ sheetOf t (m .lines)) where
+  module _ (h : m .fault .number ≡ 0) (s : Sheet) (e : s ≡ sheetOf t (m .lines)) where
     composed-lines : (expressionFaults (codes X) (knownElements X) ≡ []) × (m .lines ≡ allLines f X t (k .reads))
     composed-lines = lines-by (expressionFaults (codes X) (knownElements X)) refl composes-is h
 

@@ -38,6 +38,7 @@ use Rattle.converter.specs.Converter.{statementFor, planFor, wordsFor, f
 use Rattle.converter.specs.StatementsCode.{compiledAt, noLines, lineFrom, pushLine, composedBy, composedFrom, composed}
 use Rattle.converter.specs.ConverterCode.{sheetOf}
 use Rattle.lists.specs.Lists.{gathered}
+use Rattle.file_rules.specs.RefusalCode.{refusedAt}
 
 words-same : (p q : ℕ) (a : List ℕ) (b : List Action) (w v : List ℕ) → p ≡ q → a ≡ map actionWord b → w ≡ v
     → p ∷ length a ∷ length w ∷ (a ++ w) ≡ q ∷ length b ∷ length v ∷ (map actionWord b ++ v)
@@ -57,8 +58,8 @@ each-long r xs ys (Each.next x y us vs p e) = ap suc (each-long r us vs e)
 
 -- the answer r says what the first of the faults says, or else the lines m
 abbrev pub Composes : List Fault → Composed → Lines → Type 0
-Composes [] r m = r ≡ record { number = 0; place = 0; lines = m }
-Composes (a ∷ l) r m = (r .number ≡ a .number) × (r .place ≡ a .place) × (1 ≤ a .number)
+Composes [] r m = r ≡ record { fault = refusedAt 0 0; lines = m }
+Composes (a ∷ l) r m = (r .fault .number ≡ a .number) × (r .fault .place ≡ a .place) × (1 ≤ a .number)
 
 compose-one : (v : Verdict) (p : ℕ) (fs : List Fault) (r : Composed) (m : Lines) → Composes fs r m
     → Composes (faultOf (verdictRefusal v) p ++ fs) (composedBy v p r) m

@@ -18,6 +18,7 @@ use Rattle.tables.specs.declared.rows.Drafts.{Drafts}
 use Rattle.tables.specs.TablesCode.{namesAt}
 use Rattle.converter.specs.declared.statements.Composed.{Composed}
 use Rattle.converter.specs.StatementsCode.{compiledAt, noLines, lineFrom, pushLine, stopped, composedBy, composedFrom, composed}
+use Rattle.file_rules.specs.RefusalCode.{refusedAt}
 
 -- as many names as count
 pub names-counted : (f : List ℕ) (n : Names) (m : ℕ) → m ≡ length (take (n .count) (n .starts)) → m ≡ length (take (n .count) (n .ends))
@@ -66,7 +67,7 @@ module _ (f : List ℕ) (names : Names) (t : Drafts) (n : ℕ) (l : Lines) (i : 
     pub composing-unknown : (r : Composed) → r ≡ stopped 12 (getD (t .rows) i z .text) → c .verdict ≡ Unknown → r ≡ composed f names t
     composing-unknown r e v = e ∙ sym (sym whole ∙ (step ∙ rw v))
 
-  pub composing-all : n ≤ i → record { number = 0; place = 0; lines = l } ≡ composed f names t
+  pub composing-all : n ≤ i → record { fault = refusedAt 0 0; lines = l } ≡ composed f names t
   unfolding composedFrom
   composing-all h =
       sym (sym whole ∙ rw (drop-of-length-le (take n (t .rows)) {i = i} (omega (arith, length-take-le n (t .rows) (x .there)))))

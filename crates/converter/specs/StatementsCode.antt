@@ -17,6 +17,7 @@ use Rattle.tables.specs.declared.rows.Draft.{Draft}
 use Rattle.tables.specs.declared.rows.Drafts.{Drafts}
 use Rattle.tables.specs.RowsCode.{noActions}
 use Rattle.tables.specs.TablesCode.{namesAt}
+use Rattle.file_rules.specs.RefusalCode.{refusedAt}
 use Rattle.converter.specs.declared.statements.Composed.{Composed}
 
 -- the expression in the element at p
@@ -37,7 +38,7 @@ unfoldable pub pushLine : Lines → Line → Lines
 pushLine t x = cond (ltb (t .count) 16) (record { rows = set (t .rows) (t .count) x; count = t .count + 1 }) t
 
 abbrev pub stopped : ℕ → ℕ → Composed
-stopped n p = record { number = n; place = p; lines = noLines }
+stopped n p = record { fault = refusedAt n p; lines = noLines }
 
 -- the statements, or the first whose expression is refused
 abbrev pub composedBy : Verdict → ℕ → Composed → Composed
@@ -46,7 +47,7 @@ composedBy Broken p rest = stopped 11 p
 composedBy Unknown p rest = stopped 12 p
 
 unfoldable pub composedFrom : List ℕ → Names → List Draft → Lines → Composed
-composedFrom f n [] l = record { number = 0; place = 0; lines = l }
+composedFrom f n [] l = record { fault = refusedAt 0 0; lines = l }
 composedFrom f n (d ∷ ds) l =
     composedBy (compiledAt f n (d .text) .verdict) (d .text) (composedFrom f n ds (pushLine l (lineFrom d (compiledAt f n (d .text)))))
 

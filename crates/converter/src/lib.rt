@@ -49,8 +49,9 @@ pub fn convert(file: &[u8], plan: &mut [u32]) -> Converted
     let names = told.names;
     let drafts = told.drafts;
     let composed = statements::compose(file, names, drafts);
-    if composed.number != 0 {
-        return Converted::Refused(composed.number, composed.place);
+    let broken = composed.fault;
+    if broken.number != 0 {
+        return Converted::Refused(broken.number, broken.place);
     }
     let lines = composed.lines;
     let sheet = sheet_of(told, lines);

@@ -3,12 +3,13 @@
 // Promises: `compose` answers any file, names and drafts, by value, as specs/StatementsCode.antt gives it: all statements, or the place of the first
 // expression that is refused and its number, 11 or 12.
 ghost use mathlib.Core.Path.{_≡_};
-ghost use Prim.Native.Nat.{_≤_, min};
+ghost use Prim.Native.Nat.{_≤_};
 ghost use lib.ListN.{length, take};
 ghost use Rattle.shape.specs.Text.{trimmed};
 ghost use Rattle.grammar.specs.GrammarCode.{compiled};
 ghost use Rattle.tables.specs.TablesCode.{namesAt};
 ghost use Rattle.converter.specs.StatementsCode.{compiledAt, noLine, noLines, lineFrom, pushLine, stopped, composed};
+use file_rules::Refusal;
 use grammar::Compiled;
 use grammar::Verdict;
 use tables::rows::Draft;
@@ -23,24 +24,17 @@ use writer::Code;
 use writer::Line;
 use writer::Lines;
 
-// The statements with their code, or a refusal's number and place.
+// The statements with their code, or a refusal.
 pub struct Composed {
-    pub number: u32,
-    pub place: usize,
+    pub fault: Refusal,
     pub lines: Lines,
-}
-
-fn least(a: usize, b: usize) -> usize
-    ensures { λ r. ⌜ r ≡ min a b ⌝ }
-{
-    if a < b { a } else { b }
 }
 
 // How many names count: no more than there are.
 fn name_count(names: Names) -> usize
     ensures { λ r. ⌜ (r ≡ length (take (names .count) (names .starts))) × (r ≡ length (take (names .count) (names .ends))) ⌝ }
 {
-    least(names.count, 32)
+    lists::least(names.count, 32)
 }
 
 // The code of a text, blanks at its ends aside.
@@ -134,8 +128,7 @@ fn stop(number: u32, place: usize) -> Composed
 {
     let lines = no_lines();
     Composed {
-        number,
-        place,
+        fault: Refusal { number, place },
         lines,
     }
 }
@@ -144,7 +137,7 @@ fn stop(number: u32, place: usize) -> Composed
 fn draft_count(drafts: Drafts) -> usize
     ensures { λ r. ⌜ (r ≡ length (take (drafts .count) (drafts .rows))) × (r ≤ 16) ⌝ }
 {
-    least(drafts.count, 16)
+    lists::least(drafts.count, 16)
 }
 
 // The statements with their code, or the first whose expression is refused: 11 if it breaks its rules, 12 if a word names no trigger.
@@ -175,8 +168,10 @@ pub(crate) fn compose(file: &[u8], names: Names, drafts: Drafts) -> Composed
         }
     }
     Composed {
-        number: 0,
-        place: 0,
+        fault: Refusal {
+            number: 0,
+            place: 0,
+        },
         lines,
     }
 }

@@ -19,24 +19,24 @@ absorb-append [] ms x = refl
 absorb-append (k ∷ ks) ms x = absorb-append ks ms (absorbed k x)
 
 -- the first fault stands
-pub absorb-still : (ks : List Known) (x : Index) → (x .number ≡ 0 → ⊥) → absorb ks x ≡ x
+pub absorb-still : (ks : List Known) (x : Index) → (x .fault .number ≡ 0 → ⊥) → absorb ks x ≡ x
 unfolding absorb absorbed
 absorb-still [] x h = refl
-absorb-still (k ∷ ks) x h = rw (ne-eqb (x .number) 0 h) (absorb-still ks x h)
+absorb-still (k ∷ ks) x h = rw (ne-eqb (x .fault .number) 0 h) (absorb-still ks x h)
 
-pub absorb-none : (ks : List Known) (x : Index) → absorb ks x .number ≡ 0 → x .number ≡ 0
+pub absorb-none : (ks : List Known) (x : Index) → absorb ks x .fault .number ≡ 0 → x .fault .number ≡ 0
 absorb-none ks x e =
-    by-cases (eqb (x .number) 0) (λ t. eqb-true (x .number) 0 t)
-    (λ t. ap (λ (y : Index). y .number) (sym (absorb-still ks x (λ z. true≢false (sym (eq-eqb (x .number) 0 z) ∙ t)))) ∙ e)
+    by-cases (eqb (x .fault .number) 0) (λ t. eqb-true (x .fault .number) 0 t)
+    (λ t. ap (λ (y : Index). y .fault .number) (sym (absorb-still ks x (λ z. true≢false (sym (eq-eqb (x .fault .number) 0 z) ∙ t)))) ∙ e)
 
 -- an element without a fault is entered
-pub absorb-enter : (k : Known) (x : Index) → eqb (x .number) 0 ≡ true → firstNumber (ownFaults k) ≡ 0
+pub absorb-enter : (k : Known) (x : Index) → eqb (x .fault .number) 0 ≡ true → firstNumber (ownFaults k) ≡ 0
     → absorbed k x ≡ entered x (kindAmong kinds (k .name)) (k .place)
 unfolding absorbed
 absorb-enter k x o h = rw (o, eq-eqb (firstNumber (ownFaults k)) 0 h)
 
 -- and one with a fault refuses
-pub absorb-refuse : (k : Known) (x : Index) → eqb (x .number) 0 ≡ true → (n : ℕ) → firstNumber (ownFaults k) ≡ n → (n ≡ 0 → ⊥)
+pub absorb-refuse : (k : Known) (x : Index) → eqb (x .fault .number) 0 ≡ true → (n : ℕ) → firstNumber (ownFaults k) ≡ n → (n ≡ 0 → ⊥)
     → absorbed k x ≡ refusedIndex n (k .place)
 unfolding absorbed
 absorb-refuse k x o n h w = rw (o, h, ne-eqb n 0 w)

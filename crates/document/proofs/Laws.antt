@@ -66,7 +66,7 @@ absorb-all done (k ∷ ks) c h =
     ap (absorb ks) (enter-first done k (g .0) ∙ enter-one done k (omega (arith, n)))
     ∙ (absorb-all (done ++ (k ∷ [])) ks (g .1) (rw a h) ∙ ap indexOf a)
 
-index-number : (ks : List Known) → indexOf ks .number ≡ 0
+index-number : (ks : List Known) → indexOf ks .fault .number ≡ 0
 unfolding indexOf
 index-number ks = refl
 
@@ -83,31 +83,31 @@ Settles (a ∷ l) ks x = x ≡ refusedIndex (a .number) (a .place)
 head-of : {X : Type 0} {a b : X} {l m : List X} → a ∷ l ≡ b ∷ m → a ≡ b
 head-of {a = a} e = ap (λ l. getD l 0 a) e
 
-entered-number : (x : Index) (k : Kind) (p : ℕ) → entered x k p .number ≡ x .number
+entered-number : (x : Index) (k : Kind) (p : ℕ) → entered x k p .fault .number ≡ x .fault .number
 unfolding entered
 entered-number x k p = by-cases (ltb (x .count) 382) (λ t. rw t) (λ t. rw t)
 
-absorb-at : (k : Known) (ks : List Known) (x : Index) → x .number ≡ 0 → (a : Fault) (l fs : List Fault) → ownFaults k ≡ fs
+absorb-at : (k : Known) (ks : List Known) (x : Index) → x .fault .number ≡ 0 → (a : Fault) (l fs : List Fault) → ownFaults k ≡ fs
     → fs ++ gathered ownFaults ks ≡ a ∷ l
     →
-    ((x : Index) → x .number ≡ 0 → (a : Fault) (l : List Fault) → gathered ownFaults ks ≡ a ∷ l
+    ((x : Index) → x .fault .number ≡ 0 → (a : Fault) (l : List Fault) → gathered ownFaults ks ≡ a ∷ l
     → absorb ks x ≡ refusedIndex (a .number) (a .place)) → absorb ks (absorbed k x) ≡ refusedIndex (a .number) (a .place)
 unfolding firstNumber
 absorb-at k ks x z a l [] e g rec =
     let h : firstNumber (ownFaults k) ≡ 0 = ap firstNumber e in
-    ap (absorb ks) (absorb-enter k x (eq-eqb (x .number) 0 z) h)
+    ap (absorb ks) (absorb-enter k x (eq-eqb (x .fault .number) 0 z) h)
     ∙ rec (entered x (kindAmong kinds (k .name)) (k .place)) (entered-number x (kindAmong kinds (k .name)) (k .place) ∙ z) a l g
 absorb-at k ks x z a l (b ∷ fs) e g rec =
     let h : firstNumber (ownFaults k) ≡ b .number = ap firstNumber e in
     let w : b .number ≡ 0 → ⊥ = λ y. absurd (omega (arith, ap length (sym e ∙ no-fault k (h ∙ y)))) in
-    let c : absorbed k x ≡ refusedIndex (b .number) (k .place) = absorb-refuse k x (eq-eqb (x .number) 0 z) (b .number) h w in
+    let c : absorbed k x ≡ refusedIndex (b .number) (k .place) = absorb-refuse k x (eq-eqb (x .fault .number) 0 z) (b .number) h w in
     ap (absorb ks) c
     ∙
     (absorb-still ks (refusedIndex (b .number) (k .place)) w
     ∙ (ap (refusedIndex (b .number)) (sym (fault-place k b fs e))
     ∙ ap (λ (y : Fault). refusedIndex (y .number) (y .place)) (head-of g)))
 
-absorb-fault : (ks : List Known) (x : Index) → x .number ≡ 0 → (a : Fault) (l : List Fault) → gathered ownFaults ks ≡ a ∷ l
+absorb-fault : (ks : List Known) (x : Index) → x .fault .number ≡ 0 → (a : Fault) (l : List Fault) → gathered ownFaults ks ≡ a ∷ l
     → absorb ks x ≡ refusedIndex (a .number) (a .place)
 unfolding absorb gathered
 absorb-fault [] x z a l g = absurd (omega (arith, ap length g))
@@ -136,9 +136,9 @@ module _ (i : ℕ) (ks : List Known) (r : FoundSoFar) (s : Agrees ks r noneFound
       rw (e, x) (rw (ne-eqb (a .number) 0 n) refl)
   settled [] g h gs e =
       let x : r .index ≡ indexOf ks = s .index ∙ clean-index ks g (h g) in
-      let z : r .index .number ≡ 0 = ap (λ (y : Index). y .number) x ∙ index-number ks in
+      let z : r .index .fault .number ≡ 0 = ap (λ (y : Index). y .fault .number) x ∙ index-number ks in
       let t : r .lacking ≡ any lacks ks = s .lacking z in
-      by-cases (any lacks ks) (λ b. rw (e, eq-eqb (r .index .number) 0 z, t, b) refl) (λ b. rw (e, eq-eqb (r .index .number) 0 z, t, b) x)
+      by-cases (any lacks ks) (λ b. rw (e, eq-eqb (r .index .fault .number) 0 z, t, b) refl) (λ b. rw (e, eq-eqb (r .index .fault .number) 0 z, t, b) x)
 
 -- ---- a well-shaped file
 over-first : (k : Kind) → isOver File k noneSeen ≡ false

@@ -76,7 +76,7 @@ module _ (n : ℕ) (ms : List ℕ) (l : length ms ≡ 382) where
 -- ---- entering
 module _ (w : Walk) (ms : List ℕ) (k : Kind) where
   pub enters : length ms ≡ 382 → w .count < 382
-      → found (record { at = w .at; number = w .number; place = w .place; count = w .count + 1; lacking = w .lacking })
+      → found (record { at = w .at; fault = w .fault; count = w .count + 1; lacking = w .lacking })
       (set ms (w .count) (w .at * 32 + kindNumber k)) ≡ enteredFound (found w ms) k (w .at)
   unfolding found entered
   enters l h =

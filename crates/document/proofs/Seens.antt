@@ -20,11 +20,11 @@ use Rattle.schema.specs.SchemaCode.{kindName, kindUnder, isCarried, positionOf}
 use Rattle.schema.proofs.Every.{everywhere}
 use Rattle.schema.proofs.Laws.{carried-carried, barred-kind, unknown-kind, order-is, held-few}
 use Rattle.file_rules.specs.Element.{tooMany}
-use Rattle.element.specs.ElementCode.{lacksFirst}
 use Rattle.document.specs.declared.Seen.{Seen}
 use Rattle.file_rules.specs.Document.{alsoNamed, unmet}
 use Rattle.document.specs.DocumentCode.{noneSeen, oneMore, marked, overBy, isOver, lacksBy, lacksSome}
 use Rattle.lists.specs.Lists.{any}
+use Rattle.lists.specs.FlagsCode.{lacksFirst}
 
 -- ---- the count, which stands still at 64
 unfoldable pub capped : ℕ → ℕ

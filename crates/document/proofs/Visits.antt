@@ -63,11 +63,11 @@ held-texted q earlier (b ∷ w) i = held-texted q earlier w i
 -- ---- v is what r becomes by the known elements ks; inside an element also u, whether it lacks something itself
 pub record Agrees (ks : List Known) (v r : FoundSoFar) : Type 0 where
   pub index : v .index ≡ absorb ks (r .index)
-  pub lacking : v .index .number ≡ 0 → v .lacking ≡ (r .lacking || any lacks ks)
+  pub lacking : v .index .fault .number ≡ 0 → v .lacking ≡ (r .lacking || any lacks ks)
 
 record AgreesIn (ks : List Known) (u : Bool) (v r : FoundSoFar) : Type 0 where
   pub index : v .index ≡ absorb ks (r .index)
-  pub lacking : v .index .number ≡ 0 → v .lacking ≡ ((r .lacking || any lacks ks) || u)
+  pub lacking : v .index .fault .number ≡ 0 → v .lacking ≡ ((r .lacking || any lacks ks) || u)
 
 abbrev pub nameIn : Node → List ℕ
 nameIn (node p n l i) = n
@@ -143,7 +143,7 @@ module _ (f : List ℕ) where
               (ap (absorb (knownIn Q c (x .1))) (g .index)
               ∙ sym (absorb-append (knownAt Q earlier (x .0)) (knownIn Q c (x .1)) (r .index)));
           lacking = λ z.
-              let w = absorb-none (knownIn Q c (x .1)) (v .index) (ap (λ (m : Index). m .number) (sym (a .index)) ∙ z) in
+              let w = absorb-none (knownIn Q c (x .1)) (v .index) (ap (λ (m : Index). m .fault .number) (sym (a .index)) ∙ z) in
               a .lacking z
               ∙ rw (
                 g .lacking w,
@@ -171,11 +171,11 @@ module _ (f : List ℕ) where
   -- ---- one element
   module _ (short : length f ≤ 32768) (d : ℕ) where
     -- behind a fault nothing changes
-    past : (ks : List Known) (r : FoundSoFar) → (r .index .number ≡ 0 → ⊥) → Agrees ks r r
+    past : (ks : List Known) (r : FoundSoFar) → (r .index .fault .number ≡ 0 → ⊥) → Agrees ks r r
     past ks r h = record { index = sym (absorb-still ks (r .index) h); lacking = λ z. absurd (h z) }
 
     -- a fault of its own
-    faulty : (k : Known) (ks : List Known) (r : FoundSoFar) (m : ℕ) → eqb (r .index .number) 0 ≡ true → m ≡ firstNumber (ownFaults k)
+    faulty : (k : Known) (ks : List Known) (r : FoundSoFar) (m : ℕ) → eqb (r .index .fault .number) 0 ≡ true → m ≡ firstNumber (ownFaults k)
         → (m ≡ 0 → ⊥) → Agrees (k ∷ ks) (refusedFound r m (k .place)) r
     unfolding absorb absorbed
     faulty k ks r m t e h =
@@ -203,7 +203,7 @@ module _ (f : List ℕ) where
             (λ o. rw o (fault-law K f d e y deep short (kindUnder q n) (sym (carried-name q n c)) not-barred o)))
 
         -- without a fault it is entered, and what it holds is visited
-        enters : eqb (r .index .number) 0 ≡ true → firstNumber (ownFaults K) ≡ 0 → (v : FoundSoFar)
+        enters : eqb (r .index .fault .number) 0 ≡ true → firstNumber (ownFaults K) ≡ 0 → (v : FoundSoFar)
             → AgreesIn (knownIn (under (kindName (kindUnder q n))) [] t)
             (unmet (under (kindName (kindUnder q n))) (held (under (kindName (kindUnder q n))) [] t)) v (enteredFound r (kindUnder q n) i)
             → Agrees (K ∷ knownIn (under n) [] t) v r
@@ -224,7 +224,7 @@ module _ (f : List ℕ) where
         carried : Agrees (K ∷ knownIn (under n) [] t) (visitFrom f (suc d) i (kindUnder q n) (isOver q (kindUnder q n) s) r) r
         unfolding visitFrom looked
         carried =
-            by-cases (eqb (r .index .number) 0)
+            by-cases (eqb (r .index .fault .number) 0)
             (λ o. rw (o, carried-carried q n c, fault-first)
             (by-cases (eqb (firstNumber (ownFaults K)) 0)
             (λ h. rw h (enters o (eqb-true (firstNumber (ownFaults K)) 0 h) _
@@ -232,7 +232,7 @@ module _ (f : List ℕ) where
             (enteredFound r (kindUnder q n) i))))
             (λ h. rw h (faulty K (knownIn (under n) [] t) r (firstNumber (ownFaults K)) o refl
             (eqb-false (firstNumber (ownFaults K)) 0 h)))))
-            (λ o. rw o (past (K ∷ knownIn (under n) [] t) r (eqb-false (r .index .number) 0 o)))
+            (λ o. rw o (past (K ∷ knownIn (under n) [] t) r (eqb-false (r .index .fault .number) 0 o)))
 
       -- an element that is not carried
       barred : oneOf (under (kindName q) .barred) n ≡ true
@@ -240,16 +240,16 @@ module _ (f : List ℕ) where
       unfolding visitFrom looked faultAt isCarried isBarred
       barred b =
           rw (barred-kind q n (barred-not-carried q n b) b)
-          (by-cases (eqb (r .index .number) 0)
+          (by-cases (eqb (r .index .fault .number) 0)
           (λ o. rw o (faulty K (knownIn (under n) [] t) r 7 o (sym (barred-law K b)) (λ g. absurd (omega (arith, g)))))
-          (λ o. rw o (past (K ∷ knownIn (under n) [] t) r (eqb-false (r .index .number) 0 o))))
+          (λ o. rw o (past (K ∷ knownIn (under n) [] t) r (eqb-false (r .index .fault .number) 0 o))))
 
       -- an element that is not known
       unknown : kindUnder q n ≡ Unknown → Agrees [] (visitFrom f (suc d) i (kindUnder q n) (isOver q (kindUnder q n) s) r) r
       unfolding visitFrom looked isCarried isBarred absorb any
       unknown u =
           rw u
-          (by-cases (eqb (r .index .number) 0)
+          (by-cases (eqb (r .index .fault .number) 0)
           (λ o. rw o (record { index = refl; lacking = λ g. or-none (r .lacking) }))
           (λ o. rw o (record { index = refl; lacking = λ g. or-none (r .lacking) })))
 

@@ -20,13 +20,15 @@ use Rattle.schema.specs.declared.Times.the-variants.{Once, OneTo, UpTo}
 use Rattle.schema.specs.Schema.{under}
 use Rattle.schema.specs.SchemaCode.{kindName, kinds, kindAmong, kindUnder, orderOf, isCarried}
 use Rattle.file_rules.specs.Element.{Known, Fault, ownFaults}
-use Rattle.element.specs.ElementCode.{lacksFirst, ownFault, tagFault, firstNumber}
+use Rattle.element.specs.ElementCode.{ownFault, tagFault, firstNumber}
 use Rattle.file_rules.specs.Document.{knownElements, elementFaults}
+use Rattle.file_rules.specs.RefusalCode.{refusedAt}
 use Rattle.document.specs.declared.Entry.{Entry}
 use Rattle.document.specs.declared.Index.{Index}
 use Rattle.document.specs.declared.Seen.{Seen}
 use Rattle.document.specs.declared.Walk.{Walk}
 use Rattle.document.specs.declared.Inside.{Inside}
+use Rattle.lists.specs.FlagsCode.{lacksFirst}
 
 -- the index so far, and whether a required element lacks
 pub record FoundSoFar : Type 0 where
@@ -37,7 +39,7 @@ abbrev pub noEntry : Entry
 noEntry = record { kind = File; place = 0 }
 
 abbrev pub refusedIndex : ℕ → ℕ → Index
-refusedIndex n p = record { number = n; place = p; count = 0; entries = replicate 382 noEntry }
+refusedIndex n p = record { fault = refusedAt n p; count = 0; entries = replicate 382 noEntry }
 
 abbrev pub empty : Index
 empty = refusedIndex 0 0
@@ -46,13 +48,7 @@ empty = refusedIndex 0 0
 unfoldable pub entered : Index → Kind → ℕ → Index
 entered x k p =
     cond (ltb (x .count) 382)
-    (record {
-      number = x .number;
-      place = x .place;
-      count = x .count
-          + 1;
-      entries = set (x .entries) (x .count) (record { kind = k; place = p });
-    }) x
+    (record { fault = x .fault; count = x .count + 1; entries = set (x .entries) (x .count) (record { kind = k; place = p }) }) x
 
 abbrev pub enteredFound : FoundSoFar → Kind → ℕ → FoundSoFar
 enteredFound r k p = record { index = entered (r .index) k p; lacking = r .lacking }
@@ -63,7 +59,7 @@ refusedFound r n p = record { index = refusedIndex n p; lacking = r .lacking }
 -- ---- the same of a list of known elements
 unfoldable pub absorbed : Known → Index → Index
 absorbed k x =
-    cond (eqb (x .number) 0)
+    cond (eqb (x .fault .number) 0)
     (cond (eqb (firstNumber (ownFaults k)) 0) (entered x (kindAmong kinds (k .name)) (k .place))
     (refusedIndex (firstNumber (ownFaults k)) (k .place))) x
 
@@ -138,7 +134,7 @@ isBarred Unknown = false
 
 -- not behind a fault; what is not known is skipped
 unfoldable pub looked : FoundSoFar → Kind → Bool
-looked r k = eqb (r .index .number) 0 && (isCarried k || isBarred k)
+looked r k = eqb (r .index .fault .number) 0 && (isCarried k || isBarred k)
 
 -- the first of 4, 7 for its kind, 5, 6, 7 for a value, or 0
 unfoldable pub faultAt : List ℕ → ℕ → Kind → Bool → ℕ
@@ -179,7 +175,7 @@ abbrev pub noneFound : FoundSoFar
 noneFound = record { index = empty; lacking = false }
 
 unfoldable pub indexAt : ℕ → FoundSoFar → Index
-indexAt i r = cond (eqb (r .index .number) 0 && r .lacking) (refusedIndex 8 i) (r .index)
+indexAt i r = cond (eqb (r .index .fault .number) 0 && r .lacking) (refusedIndex 8 i) (r .index)
 
 unfoldable pub indexed : List ℕ → Index
 indexed f =
@@ -228,8 +224,7 @@ entriesFrom n ms = map entryFrom (take n ms) ++ replicate (382 - n) noEntry
 
 unfoldable pub found : Walk → List ℕ → FoundSoFar
 found w ms =
-    record
-    { index = record { number = w .number; place = w .place; count = w .count; entries = entriesFrom (w .count) ms }; lacking = w .lacking }
+    record { index = record { fault = w .fault; count = w .count; entries = entriesFrom (w .count) ms }; lacking = w .lacking }
 
 -- an element stands at i, in which elements nest at most d deep, and there is room for every mark
 pub record Ready (f : List ℕ) (d i : ℕ) (ms : List ℕ) : Type 0 where
@@ -256,7 +251,7 @@ abbrev pub entryOf : Known → Entry
 entryOf k = record { kind = kindAmong kinds (k .name); place = k .place }
 
 unfoldable pub indexOf : List Known → Index
-indexOf ks = record { number = 0; place = 0; count = length ks; entries = map entryOf ks ++ replicate (382 - length ks) noEntry }
+indexOf ks = record { fault = refusedAt 0 0; count = length ks; entries = map entryOf ks ++ replicate (382 - length ks) noEntry }
 
 pub data Indexes (s : List ℕ) : Index → Type 0 where
   shapeless : (a : Shape) (n p : ℕ) → Shaped s a → shapeRefusal a ≡ some (n, p) → Indexes s (refusedIndex n p)

@@ -11,10 +11,12 @@ ghost use lib.ListN.{length, getD, set};
 ghost use Rattle.shape.specs.declared.Shape.the-variants.{Whole};
 ghost use Rattle.shape.specs.Shape.{Shaped};
 ghost use Rattle.walk.specs.WalkCode.{contentAt, skipped};
-ghost use Rattle.element.specs.ElementCode.{lacksFirst, worded};
+ghost use Rattle.element.specs.ElementCode.{worded};
 ghost use Rattle.schema.specs.SchemaCode.{isCarried};
 ghost use Rattle.document.specs.DocumentCode.{refusedIndex, enteredFound, refusedFound, noneSeen, oneMore, marked, isOver, lacksSome, closedWalk, childAt, isBarred, looked, faultAt, tagFaultAt, visitBody, visitFrom, indexAt, noneFound, indexed, Indexes, kindNumber, kindOf, entryFrom, entriesFrom, found, Ready, VisitedIs, InsideIs};
+ghost use Rattle.lists.specs.FlagsCode.{lacksFirst};
 use element::faults;
+use file_rules::Refusal;
 use schema::Kind;
 use schema::Times;
 use schema::names;
@@ -25,6 +27,38 @@ use walk::Item;
 use walk::elements;
 use walk::items;
 use walk::tags;
+
+pub struct Entry {
+    pub kind: Kind,
+    pub place: usize,
+}
+
+// The known elements in file order, or the first refusal (then there are no entries).
+pub struct Index {
+    pub fault: Refusal,
+    pub count: usize,
+    pub entries: [Entry; 382],
+}
+
+// The walk so far: where it stands, the first refusal, how many entries are marked, and whether a required element lacks.
+pub struct Walk {
+    pub at: usize,
+    pub fault: Refusal,
+    pub count: usize,
+    pub lacking: bool,
+}
+
+// The walk behind an element, and whether text that is no blank stands in the element.
+pub struct Inside {
+    pub walk: Walk,
+    pub stray: bool,
+}
+
+// What an element holds so far: how many (counted up to 64), and which of those that it holds once.
+pub struct Seen {
+    pub count: usize,
+    pub names: [bool; 5],
+}
 
 fn is_carried(kind: Kind) -> bool
     ensures { λ r. ⌜ r ≡ isCarried kind ⌝ }
@@ -54,8 +88,7 @@ fn refuse(number: u32, place: usize) -> Index
         place: 0,
     };
     Index {
-        number,
-        place,
+        fault: Refusal { number, place },
         count: 0,
         entries: [none; 382],
     }
@@ -180,8 +213,7 @@ fn refused(walk: Walk, number: u32, place: usize) -> Walk
 {
     Walk {
         at: walk.at,
-        number,
-        place,
+        fault: Refusal { number, place },
         count: 0,
         lacking: walk.lacking,
     }
@@ -235,12 +267,6 @@ fn mark(seen: Seen, kind: Kind) -> Seen
     seen
 }
 
-fn is_flagged(names: [bool; 5], at: usize) -> bool
-    ensures { λ r. ⌜ r ≡ getD names at false ⌝ }
-{
-    if at < 5 { names[at] } else { false }
-}
-
 // One too many of its kind, or of its parent's.
 fn is_over(parent: Kind, kind: Kind, seen: Seen) -> bool
     ensures { λ r. ⌜ r ≡ isOver parent kind seen ⌝ }
@@ -250,25 +276,11 @@ fn is_over(parent: Kind, kind: Kind, seen: Seen) -> bool
         Times::Once => {
             let at = schema::order_of(kind);
             let names = seen.names;
-            is_flagged(names, at)
+            lists::is_flagged(&names, at)
         }
         Times::OneTo(m) => (m as usize) <= seen.count,
         Times::UpTo(m) => (m as usize) <= seen.count,
     }
-}
-
-fn lacks_first(names: [bool; 5], n: usize) -> bool
-    ensures { λ r. ⌜ r ≡ lacksFirst n names ⌝ }
-{
-    let mut at = 0;
-    while at < n {
-        if is_flagged(names, at) {
-            at += 1;
-        } else {
-            return true;
-        }
-    }
-    false
 }
 
 // Does an element lack what it must hold?
@@ -280,7 +292,7 @@ fn lacks_some(kind: Kind, seen: Seen) -> bool
         Times::Once => {
             let n = schema::held_by(kind);
             let names = seen.names;
-            lacks_first(names, n)
+            lists::lacks_first(&names, n)
         }
         Times::OneTo(_) => seen.count == 0,
         Times::UpTo(_) => false,
@@ -292,10 +304,10 @@ fn close(walk: Walk, kind: Kind, seen: Seen, end: usize, stray: bool) -> Inside
     ensures { λ r. ⌜ ((ms : List ℕ) → found (r .walk) ms ≡ closedWalk (found walk ms) kind seen) × (r .walk .at ≡ end) × (r .stray ≡ stray) ⌝ }
 {
     let lacks = lacks_some(kind, seen);
+    let fault = walk.fault;
     let closed = Walk {
         at: end,
-        number: walk.number,
-        place: walk.place,
+        fault,
         count: walk.count,
         lacking: walk.lacking | lacks,
     };
@@ -355,7 +367,8 @@ fn is_worded(kind: Kind) -> bool
 fn is_looked_at(walk: Walk, kind: Kind) -> bool
     ensures { λ r. ⌜ ((ms : List ℕ) → r ≡ looked (found walk ms) kind) ⌝ }
 {
-    if walk.number != 0 {
+    let fault = walk.fault;
+    if fault.number != 0 {
         return false;
     }
     if is_carried(kind) {
@@ -443,13 +456,13 @@ fn settle(walk: Walk, root: usize, marks: &[usize]) -> Index
     requires { ⌜ length (now marks) ≡ 382 ⌝ }
     ensures { λ r. ⌜ r ≡ indexAt root (found walk (now (marks .entry))) ⌝ }
 {
-    if (walk.number == 0) & walk.lacking {
+    let fault = walk.fault;
+    if (fault.number == 0) & walk.lacking {
         return refuse(8, root);
     }
     let entries = entries_of(marks, walk.count);
     Index {
-        number: walk.number,
-        place: walk.place,
+        fault,
         count: walk.count,
         entries,
     }
@@ -460,8 +473,10 @@ fn none_found(at: usize) -> Walk
 {
     Walk {
         at,
-        number: 0,
-        place: 0,
+        fault: Refusal {
+            number: 0,
+            place: 0,
+        },
         count: 0,
         lacking: false,
     }
@@ -491,38 +506,4 @@ pub fn read_index(file: &[u8]) -> Index
         Shape::Broken(p) => refuse(2, p),
         Shape::Whole => index_whole(file),
     }
-}
-
-pub struct Entry {
-    pub kind: Kind,
-    pub place: usize,
-}
-
-// The known elements in file order, or the first fault and its place (then there are no entries).
-pub struct Index {
-    pub number: u32,
-    pub place: usize,
-    pub count: usize,
-    pub entries: [Entry; 382],
-}
-
-// The walk so far: where it stands, the first fault and its place (0 if there is none yet), how many entries are marked, and whether a required element lacks.
-pub struct Walk {
-    pub at: usize,
-    pub number: u32,
-    pub place: usize,
-    pub count: usize,
-    pub lacking: bool,
-}
-
-// The walk behind an element, and whether text that is no blank stands in the element.
-pub struct Inside {
-    pub walk: Walk,
-    pub stray: bool,
-}
-
-// What an element holds so far: how many (counted up to 64), and which of those that it holds once.
-pub struct Seen {
-    pub count: usize,
-    pub names: [bool; 5],
 }

@@ -17,11 +17,12 @@ use Rattle.schema.specs.declared.Kind.the-variants.{File, Kvaser, Version, Sett
 use Rattle.schema.specs.Schema.{Parent, Rule, elements, rulesIn}
 use Rattle.schema.specs.SchemaCode.{kindName, askedFrom, askedOf, requiredIn, firstRequired, apart}
 use Rattle.file_rules.specs.Element.{Known, goodOf, worthBy, givenValue, given}
-use Rattle.element.specs.ElementCode.{nothingGathered, gatheredList, lacksFirst, isKind, isFilter, unpaired, idsCrossed, boundsCrossed}
+use Rattle.element.specs.ElementCode.{nothingGathered, gatheredList, isKind, isFilter, unpaired, idsCrossed, boundsCrossed}
 use Rattle.file_rules.proofs.ElementLaws.{knows}
 use Rattle.element.proofs.Gathers.{rulesFor, slotOf, neither, slot-test, all-known, given-is, spelled-is, never-given, sized-nothing, sized-list}
 use Rattle.element.proofs.Required.{both, lacks-is}
 use Rattle.lists.specs.Lists.{any}
+use Rattle.lists.specs.FlagsCode.{lacksFirst}
 
 -- an element of a kind
 abbrev pub of : Kind → Parent → List (List ℕ) → ℕ → List Attribute → Items → Known

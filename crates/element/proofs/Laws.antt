@@ -21,12 +21,13 @@ use Rattle.schema.specs.Schema.{Parent, _to_, oneOf, rulesOf}
 use Rattle.schema.specs.SchemaCode.{kindName, requiredIn}
 use Rattle.schema.proofs.Laws.{rules-few, required-first, rules-distinct}
 use Rattle.file_rules.specs.Element.{Known, Fault, _at_if_, isBad, isNotCarried, worthBy, givenValue, given, has, valueOf, channelOf, tooMany, misfit, crossed, misworded, ownFaults}
-use Rattle.element.specs.ElementCode.{nothingGathered, gatheredAt, gatheredList, isKind, lacksFirst, unpaired, lacking, boundsCrossed, numbered, badText, verdict, ownFault, firstNumber, valueAt}
+use Rattle.element.specs.ElementCode.{nothingGathered, gatheredAt, gatheredList, isKind, unpaired, lacking, boundsCrossed, numbered, badText, verdict, ownFault, firstNumber, valueAt}
 use Rattle.element.proofs.Gathers.{rulesFor, slotOf, neither, five-is, bad-is, not-carried-is}
 use Rattle.element.proofs.Forms.{of, Fit, lacksIn, form-of, odd-is, crossed-is, lack-is, value-at, given-at}
 use Rattle.element.proofs.Texts.{short-law, stray-law}
 use Rattle.element.proofs.Tags.{gathers, spells}
 use Rattle.lists.specs.Lists.{any}
+use Rattle.lists.specs.FlagsCode.{lacksFirst}
 
 few : (kind : Kind) → length (rulesFor kind) ≤ 12
 few kind = omega (arith, rules-few kind)

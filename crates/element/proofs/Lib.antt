@@ -7,7 +7,6 @@ pub mod Texts
 pub mod Verdicts
 pub mod Turns
 pub mod Gathers
-pub mod Flags
 pub mod Required
 pub mod Forms
 pub mod Arms

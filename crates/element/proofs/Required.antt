@@ -14,9 +14,9 @@ use Rattle.lists.proofs.Cases.{by-cases}
 use Rattle.text.proofs.Equal.{same-self, same-equal}
 use Rattle.schema.specs.Schema.{Rule}
 use Rattle.schema.specs.SchemaCode.{askedFrom, requiredIn, firstRequired, apart}
-use Rattle.element.specs.ElementCode.{lacksFirst}
 use Rattle.file_rules.proofs.ElementLaws.{knows, knows-here, knows-later, slot-here, slot-later}
 use Rattle.lists.specs.Lists.{any}
+use Rattle.lists.specs.FlagsCode.{lacksFirst}
 
 pub both : (t u : Bool) → (t && u) ≡ true → (t ≡ true) × (u ≡ true)
 both true u e = (refl, e)

@@ -21,6 +21,7 @@ use Rattle.schema.specs.Schema.{_to_, rulesOf}
 use Rattle.schema.specs.SchemaCode.{kindName, askedOf, requiredIn}
 use Rattle.file_rules.specs.Element.{isBad, isNotCarried, goodOf, Fault}
 use Rattle.element.specs.declared.Gathered.{Gathered}
+use Rattle.lists.specs.FlagsCode.{lacksFirst}
 
 -- nothing gathered
 unfoldable pub nothingGathered : Gathered
@@ -63,12 +64,6 @@ gatheredAt kind f i = gatherFrom kind f (suc (length f)) (walk.nameAt f i .to) n
 unfoldable pub gatheredList : Kind → List Attribute → Gathered → Gathered
 gatheredList kind [] g = g
 gatheredList kind (a ∷ l) g = gatheredList kind l (judgedBy g (askedOf kind (a .name)) (a .value))
-
--- one of the first n is false
-unfoldable pub lacksFirst : ℕ → List Bool → Bool
-lacksFirst zero l = false
-lacksFirst (suc n) [] = true
-lacksFirst (suc n) (b ∷ l) = not b || lacksFirst n l
 
 abbrev pub isKind : Kind → String → Bool
 isKind kind n = same (kindName kind) (bytes n)

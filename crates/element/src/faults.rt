@@ -7,7 +7,8 @@ ghost use lib.ListN.{getD};
 ghost use Rattle.text.specs.Texts.{bytes, same};
 ghost use Rattle.shape.specs.Text.{trimmed};
 ghost use Rattle.file_rules.specs.Element.{isBad};
-ghost use Rattle.element.specs.ElementCode.{lacksFirst, unpaired, lacking, idsCrossed, boundsCrossed, shortText, badText, misspelt, verdict, ownFault, tagFault};
+ghost use Rattle.element.specs.ElementCode.{unpaired, lacking, idsCrossed, boundsCrossed, shortText, badText, misspelt, verdict, ownFault, tagFault};
+ghost use Rattle.lists.specs.FlagsCode.{lacksFirst};
 use crate::Gathered;
 use crate::SLOTS;
 use crate::fields;
@@ -19,27 +20,6 @@ use walk::texts;
 use walk::trims;
 
 const LAST_STANDARD: u32 = 2047;
-
-fn is_there(has: [bool; 12], i: usize) -> bool
-    ensures { λ r. ⌜ r ≡ getD has i false ⌝ }
-{
-    if i < SLOTS { has[i] } else { false }
-}
-
-// Is one of the first n not there?
-fn lacks_first(has: [bool; 12], n: usize) -> bool
-    ensures { λ r. ⌜ r ≡ lacksFirst n has ⌝ }
-{
-    let mut i = 0;
-    while i < n {
-        if is_there(has, i) {
-            i += 1;
-        } else {
-            return true;
-        }
-    }
-    false
-}
 
 // Has a filter one of dlc and dlc_min without the other?
 fn is_unpaired(kind: Kind, has: [bool; 12]) -> bool
@@ -56,7 +36,7 @@ fn lacks(kind: Kind, has: [bool; 12]) -> bool
     ensures { λ r. ⌜ r ≡ lacking kind has ⌝ }
 {
     let n = schema::required_of(kind);
-    if lacks_first(has, n) {
+    if lists::lacks_first(&has, n) {
         return true;
     }
     is_unpaired(kind, has)

@@ -75,3 +75,28 @@ pub ending-check : (answersFrom (at 500 9 ∷ at 1000 1 ∷ at 10000 2 ∷ at 11
 unfolding answersTo after step process passes firstMatch filtersOn matches triggered states firings fires zipWith evaluated actions actAll
     valueOn runWords stepWord opOf code.stepOp
 ending-check = (refl, refl, refl)
+
+-- log_all does not skip the filters: 99 is stopped, 150 is recorded, with the logging state Off.
+abbrev pub logged : Plan
+logged = record { channels = 1; logAll = true; triggers = []; filters = passAndStop; statements = [] }
+
+pub log-all-check : answersTo (configOf logged) fresh noCounts (at 0 99 ∷ at 0 150 ∷ tick 0 ∷ [])
+    ≡ answers.Stopped ∷ answers.Recorded ∷ answers.Ticked ∷ []
+unfolding answersTo step process passes firstMatch filtersOn matches triggered
+log-all-check = refl
+
+-- A statement acts where its expression rose: id 1 starts, and stays true for 100 ms; id 2 stops at once, and no start comes behind it.
+abbrev pub lasting : Plan
+lasting = record {
+  channels = 1;
+  logAll = false;
+  triggers = record { cause = ids 1 1; timeout = Ms 100 } ∷ record { cause = ids 2 2; timeout = Ms 0 } ∷ [];
+  filters = [];
+  statements = record { post = 0; actions = StartLog ∷ []; code = 0 ∷ [] } ∷ record { post = 0; actions = StopLog ∷ []; code = 1 ∷ [] } ∷ [];
+}
+
+pub rise-check : answersTo (configOf lasting) fresh noCounts (at 0 1 ∷ at 1000 2 ∷ at 2000 9 ∷ at 3000 9 ∷ [])
+    ≡ answers.Recorded ∷ answers.Idle ∷ answers.Idle ∷ answers.Idle ∷ []
+unfolding answersTo step process passes firstMatch filtersOn matches triggered states firings fires zipWith evaluated actions actAll valueOn
+    runWords stepWord opOf code.stepOp
+rise-check = refl

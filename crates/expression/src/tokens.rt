@@ -2,7 +2,7 @@
 //
 // Promises: `tokenise` answers every input, by value and to the last word, as crates/grammar/specs/Lex.antt says it. It knows no grammar.
 ghost use mathlib.Core.Path.{_≡_};
-ghost use Prim.Native.Nat.{_<_, min};
+ghost use Prim.Native.Nat.{_<_};
 ghost use lib.ListN.{length, take, drop};
 ghost use Rattle.text.specs.Texts.{same};
 ghost use Rattle.grammar.specs.Lex.{word, namesIn, find, numberOf};
@@ -19,18 +19,12 @@ const TRIGGERS: u32 = 32;
 
 const UNKNOWN: u32 = 37;
 
-fn least(a: usize, b: usize) -> usize
-    ensures { λ r. ⌜ r ≡ min a b ⌝ }
-{
-    if a < b { a } else { b }
-}
-
 // Is the word what stands in the file from a start up to an end?
 fn is_named(word: &[u8], file: &[u8], start: usize, end: usize) -> bool
     ensures { λ r. ⌜ r ≡ same (now (word .entry)) (drop start (take end (now (file .entry)))) ⌝ }
 {
-    let e = least(end, file.len());
-    let a = least(start, e);
+    let e = lists::least(end, file.len());
+    let a = lists::least(start, e);
     texts::same_text(word, &file[a..e])
 }
 

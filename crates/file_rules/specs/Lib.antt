@@ -1,5 +1,6 @@
--- All of this is what a reader must believe.
+-- What a reader must believe; RefusalCode serves the contracts of the crates above.
 pub mod Element
 pub mod Reading
 pub mod Document
 pub mod Tables
+pub mod RefusalCode

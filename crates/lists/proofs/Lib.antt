@@ -2,3 +2,4 @@
 pub mod Cases
 pub mod Parts
 pub mod Fills
+pub mod Flags

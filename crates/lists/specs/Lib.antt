@@ -1,2 +1,3 @@
--- Functions of lists that the definitions above share.
+-- `Lists` is what a reader must believe; FlagsCode serves contracts.
 pub mod Lists
+pub mod FlagsCode

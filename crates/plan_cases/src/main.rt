@@ -14,12 +14,6 @@ const STDOUT: i32 = 1;
 // Room for the input, in which two files have 32,768 bytes or more.
 const ROOM: usize = 131072;
 
-fn least(a: usize, b: usize) -> usize
-    ensures { λ r. ⌜ r ≡ min a b ⌝ }
-{
-    if a < b { a } else { b }
-}
-
 // The number that the digits spell, at most the room: a digit's low four bits are its worth.
 fn number(digits: &[u8]) -> usize
     ensures { λ r. ⌜ r ≤ 131072 ⌝ }
@@ -28,7 +22,7 @@ fn number(digits: &[u8]) -> usize
     let mut i = 0;
     while i < digits.len() {
         let d = digits[i] % 16;
-        n = least(n * 10 + d as usize, ROOM);
+        n = lists::least(n * 10 + d as usize, ROOM);
         i += 1;
     }
     n
@@ -40,7 +34,7 @@ fn behind(s: &[u8], i: usize, n: usize) -> usize
     requires { ⌜ n ≤ 131072 ⌝ }
     ensures { λ r. ⌜ r ≡ min (i + n) (length (now (s .entry))) ⌝ }
 {
-    i + least(n, s.len() - i)
+    i + lists::least(n, s.len() - i)
 }
 
 fn show(title: &[u8], file: &[u8], words: &mut [u32]) {

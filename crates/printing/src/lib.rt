@@ -2,7 +2,7 @@
 //
 // Promises: `print_answer` answers every form, every file, every plan buffer and every text buffer; specs/Printing.antt says what stands in them then.
 // May not touch: standard input and output. The programs read and write.
-ghost use Prim.Native.Nat.{_≤_, min};
+ghost use Prim.Native.Nat.{_≤_};
 ghost use mathlib.Core.Path.{_≡_};
 ghost use mathlib.Core.List.{[], _∷_, _++_};
 ghost use lib.ListN.{length, getD, take};
@@ -16,12 +16,6 @@ use converter::Converted;
 pub enum Form {
     Plan,
     Words,
-}
-
-fn least(a: usize, b: usize) -> usize
-    ensures { λ r. ⌜ r ≡ min a b ⌝ }
-{
-    if a < b { a } else { b }
 }
 
 // The word at i, 0 where there is none.
@@ -106,7 +100,7 @@ fn put_summary(n: usize, words: &[u32], out: &mut [u8]) -> usize
 fn put_lines(n: usize, words: &[u32], out: &mut [u8]) -> usize
     ensures { λ r. ⌜ Put (wordLines (take n (now (words .entry)))) (now (out .entry)) r (now (out .exit)) ⌝ }
 {
-    let m = least(n, words.len());
+    let m = lists::least(n, words.len());
     let mut at = 0;
     let mut i = 0;
     while i < m {

@@ -1,16 +1,14 @@
 -- How readers follow each other, and what the bytes of a comment do.
 use Prim.Native.Nat.{ℕ, _+_, _≤_, _<_}
 use native.Mathlib.Omega.{arith}
-use mathlib.Core.Path.{_≡_, refl, sym, ap, _∙_}
+use mathlib.Core.Path.{_≡_, refl, ap, _∙_}
 use mathlib.Core.List.{List}
 use mathlib.Core.Bool.{Bool, true, false}
-use lib.ListN.{length, getD, drop-of-length-le}
+use lib.ListN.{length, getD}
 use borrow.Author.Tests.{eq-eqb, ne-eqb}
 use Rattle.shape.specs.declared.Step.{Step}
 use Rattle.shape.specs.declared.Step.the-variants.{At, Bad}
 use Rattle.text.specs.Kinds.{isAny}
-use Rattle.text.proofs.Spans.{drop-one}
-use Rattle.shape.specs.EndsCode.{firstIs, expected, onward}
 use Rattle.shape.specs.MachineCode.{State, idle, comment, Zone, ComPart, bang, dash, text, textDash, textEnd, live, dead, Out, bad, stepByte, end, at, goes}
 use Rattle.shape.specs.ReadsCode.{WentOn, Reads, Expects}
 use Rattle.shape.proofs.Run.{at-step, at-dead, at-end}
@@ -27,23 +25,6 @@ expects-other b s i h e = record { run = λ q q′ l d f. at-dead q s i h (d h e
 
 pub expects-end : (b : ℕ) (s : List ℕ) (i : ℕ) → length s ≤ i → Expects b s i (Bad i)
 expects-end b s i h = record { run = λ q q′ l d f. at-end q s i h ∙ f; past = tt }
-
--- the same three, of the answer itself
-pub told-at : (b : ℕ) (s : List ℕ) (i : ℕ) → i < length s → getD s i 0 ≡ b → At (i + 1) ≡ expected b s i
-told-at b s i h e = sym (ap (λ (l : List ℕ). firstIs b l i) (drop-one s i h) ∙ rw (eq-eqb _ _ e))
-
-pub told-other : (b : ℕ) (s : List ℕ) (i : ℕ) → i < length s → (getD s i 0 ≡ b → ⊥) → Bad i ≡ expected b s i
-told-other b s i h e = sym (ap (λ (l : List ℕ). firstIs b l i) (drop-one s i h) ∙ rw (ne-eqb _ _ e))
-
-pub told-end : (b : ℕ) (s : List ℕ) (i : ℕ) → length s ≤ i → Bad i ≡ expected b s i
-told-end b s i h = sym (ap (λ (l : List ℕ). firstIs b l i) (drop-of-length-le s h))
-
--- one answer behind another
-pub onward-at : {a r : Step} {j : ℕ} (f : ℕ → Step) → a ≡ At j → r ≡ f j → r ≡ onward a f
-onward-at f e g = g ∙ sym (ap (λ (a : Step). onward a f) e)
-
-pub onward-bad : {a : Step} {p : ℕ} (f : ℕ → Step) → a ≡ Bad p → Bad p ≡ onward a f
-onward-bad f e = sym (ap (λ (a : Step). onward a f) e)
 
 -- a callee's answer, taken apart by a match
 pub then-at : {o : Out} (q : State) (s : List ℕ) (r : Step) {j : ℕ} → o ≡ goes q s r → r ≡ At j → o ≡ at q s j

@@ -2,5 +2,4 @@
 pub mod Shape
 pub mod MachineCode
 pub mod ReadsCode
-pub mod EndsCode
 pub mod Text

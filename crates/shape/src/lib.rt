@@ -3,9 +3,6 @@
 // Promises: specs/Shape.antt and specs/Text.antt are what a reader must believe. proofs/Viability.antt, `by-run`: where the machine that reads
 // byte by byte stops is what Shape.antt says of the file; proofs/OneDoc.antt, `one-doc`: a text spells at most one document.
 // May not touch: what an element means. It knows no element's name, and has no code.
-ghost use mathlib.Core.Path.{_≡_};
-ghost use Rattle.shape.specs.EndsCode.{expected};
-ghost use Rattle.shape.specs.ReadsCode.{Expects};
 
 // A file's shape. Broken: some well-shaped text starts with this many of its bytes, and none with more.
 pub enum Shape {
@@ -40,17 +37,4 @@ pub enum Outer {
     End(usize),
     Lt(usize),
     Halt(usize),
-}
-
-// The byte b must stand here.
-pub fn expect(file: &[u8], from: usize, b: u8) -> Step
-    ensures { λ r. ⌜ (Expects b (now (file .entry)) from r) × (r ≡ expected b (now (file .entry)) from) ⌝ }
-{
-    if from < file.len() {
-        let found = file[from];
-        if found == b {
-            return Step::At(from + 1);
-        }
-    }
-    Step::Bad(from)
 }

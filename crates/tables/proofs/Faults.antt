@@ -12,7 +12,6 @@ use Rattle.schema.specs.declared.Kind.the-variants.{MsgId, MsgDlc, ErrorFrame}
 use Rattle.schema.specs.Schema.{parents, parentIn, elements, rulesIn}
 use Rattle.schema.specs.SchemaCode.{kindName, kindAmong, askedFrom, askedOf}
 use Rattle.file_rules.specs.Element.{Known, Fault, _at_if_, goodOf, channelOf, valueOf}
-use Rattle.element.specs.ElementCode.{lacksFirst}
 use Rattle.element.specs.ElementCode as element
 use Rattle.element.proofs.Laws.{channel-law}
 use Rattle.file_rules.specs.Reading.{is}
@@ -22,14 +21,16 @@ use Rattle.document.specs.DocumentCode.{entryOf, indexOf}
 use Rattle.document.proofs.Stood.{All}
 use Rattle.tables.specs.declared.rows.Head.{Head}
 use Rattle.tables.specs.RowsCode.{folded, noNames, tellName, told}
-use Rattle.tables.specs.declared.Refusal.{Refusal}
+use Rattle.file_rules.specs.declared.Refusal.{Refusal}
 use Rattle.file_rules.specs.Tables as Tables
 use Rattle.file_rules.specs.Tables.{kept, isIn, usedNames, gap, channelNamed, channelsIn, tableFaults}
-use Rattle.tables.specs.TablesCode.{refusedAt, usedFrom, nameFault, firstWhere, busFault, isBeyond, channelFault, orElse, tableFault}
+use Rattle.tables.specs.TablesCode.{usedFrom, nameFault, firstWhere, busFault, isBeyond, channelFault, orElse, tableFault}
+use Rattle.file_rules.specs.RefusalCode.{refusedAt}
 use Rattle.tables.proofs.Wanted.{Fit, firstOf}
 use Rattle.tables.proofs.Entries.{entries-are, told-head, told-names}
 use Rattle.tables.proofs.Tells.{kindOf, value-as, names-law, places-law, HeadHold, head-law}
 use Rattle.lists.specs.Lists.{any, gathered}
+use Rattle.lists.specs.FlagsCode.{lacksFirst}
 
 -- ---- 9: a name that was used earlier, or else what the rest says
 used-law : (rest : List Fault) (earlier : List (List ℕ)) (ms : List Known)

@@ -18,8 +18,9 @@ use Rattle.document.specs.DocumentCode.{Indexes}
 use Rattle.tables.specs.declared.rows.Names.{Names}
 use Rattle.tables.specs.declared.rows.Told.{Told}
 use Rattle.tables.specs.RowsCode.{told}
-use Rattle.tables.specs.declared.Refusal.{Refusal}
-use Rattle.tables.specs.TablesCode.{refusedAt, usedFrom, nameFault, firstWhere, orElse, tableFault, tabled, Tabled}
+use Rattle.file_rules.specs.declared.Refusal.{Refusal}
+use Rattle.tables.specs.TablesCode.{usedFrom, nameFault, firstWhere, orElse, tableFault, tabled, Tabled}
+use Rattle.file_rules.specs.RefusalCode.{refusedAt}
 use Rattle.lists.specs.Lists.{any}
 
 -- ---- names
@@ -150,12 +151,12 @@ or-second r a b e h = rw (← e, eq-eqb (r .number) 0 h)
 
 -- ---- the tables of a file, by its index x and what that tells
 module _ (f : List ℕ) (x : Index) (t : Told) where
-  pub tabled-refused : Indexes f x → t ≡ told f x → (x .number ≡ 0 → ⊥)
-      → Tabled f (record { fault = refusedAt (x .number) (x .place); told = t })
+  pub tabled-refused : Indexes f x → t ≡ told f x → (x .fault .number ≡ 0 → ⊥)
+      → Tabled f (record { fault = x .fault; told = t })
   unfolding tabled
-  tabled-refused i e h = record { index = x; indexes = i; same-tables = rw (e, ne-eqb (x .number) 0 h) }
+  tabled-refused i e h = record { index = x; indexes = i; same-tables = rw (e, ne-eqb (x .fault .number) 0 h) }
 
-  pub tabled-judged : (r : Refusal) → Indexes f x → t ≡ told f x → x .number ≡ 0 → r ≡ tableFault f x t
+  pub tabled-judged : (r : Refusal) → Indexes f x → t ≡ told f x → x .fault .number ≡ 0 → r ≡ tableFault f x t
       → Tabled f (record { fault = r; told = t })
   unfolding tabled
-  tabled-judged r i e h q = record { index = x; indexes = i; same-tables = rw (q, e, eq-eqb (x .number) 0 h) }
+  tabled-judged r i e h q = record { index = x; indexes = i; same-tables = rw (q, e, eq-eqb (x .fault .number) 0 h) }

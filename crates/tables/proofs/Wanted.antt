@@ -15,9 +15,10 @@ use Rattle.document.specs.DocumentCode.{indexOf}
 use Rattle.document.proofs.Stood.{Stood}
 use Rattle.tables.specs.declared.rows.Draft.{Draft}
 use Rattle.tables.specs.declared.rows.Told.{Told}
-use Rattle.tables.specs.declared.Refusal.{Refusal}
+use Rattle.file_rules.specs.declared.Refusal.{Refusal}
 use Rattle.file_rules.specs.Tables.{kept, isIn, within, expressionsOf, tablesOf, tableFaults}
-use Rattle.tables.specs.TablesCode.{refusedAt, namesAt, tableFault}
+use Rattle.tables.specs.TablesCode.{namesAt, tableFault}
+use Rattle.file_rules.specs.RefusalCode.{refusedAt}
 
 -- a known element without faults, which stands in the file and has the name of a kind
 pub record Fit (f : List ℕ) (k : Known) : Type 0 where

@@ -10,7 +10,7 @@ use Rattle.text.specs.Texts.{bytes, same}
 use Rattle.grammar.specs.Lex.{namesIn}
 use Rattle.schema.specs.declared.Kind.{Kind}
 use Rattle.file_rules.specs.Element.{goodOf}
-use Rattle.element.specs.ElementCode.{isKind, lacksFirst, numbered}
+use Rattle.element.specs.ElementCode.{isKind, numbered}
 use Rattle.element.specs.ReadingCode as reading
 use Rattle.document.specs.declared.Entry.{Entry}
 use Rattle.document.specs.declared.Index.{Index}
@@ -19,12 +19,11 @@ use Rattle.tables.specs.declared.rows.Names.{Names}
 use Rattle.tables.specs.declared.rows.Head.{Head}
 use Rattle.tables.specs.declared.rows.Told.{Told}
 use Rattle.tables.specs.RowsCode.{entriesOf, isUnder, told}
-use Rattle.tables.specs.declared.Refusal.{Refusal}
+use Rattle.file_rules.specs.declared.Refusal.{Refusal}
+use Rattle.file_rules.specs.RefusalCode.{refusedAt}
 use Rattle.tables.specs.declared.Tables.{Tables}
 use Rattle.lists.specs.Lists.{any}
-
-abbrev pub refusedAt : ℕ → ℕ → Refusal
-refusedAt n p = record { number = n; place = p }
+use Rattle.lists.specs.FlagsCode.{lacksFirst}
 
 -- ---- 9: a name that one of those before it is
 abbrev pub namesAt : List ℕ → Names → List (List ℕ)
@@ -64,7 +63,7 @@ unfoldable pub tableFault : List ℕ → Index → Told → Refusal
 tableFault f x t = orElse (nameFault f (t .names)) (orElse (busFault (t .head) x) (channelFault f (t .head) x))
 
 unfoldable pub tabled : List ℕ → Index → Tables
-tabled f x = record { fault = orElse (refusedAt (x .number) (x .place)) (tableFault f x (told f x)); told = told f x }
+tabled f x = record { fault = orElse (x .fault) (tableFault f x (told f x)); told = told f x }
 
 -- the tables of a file, by its index
 pub record Tabled (f : List ℕ) (r : Tables) : Type 0 where

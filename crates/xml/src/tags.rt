@@ -1,9 +1,6 @@
 // Start tags and end tags, in the first pass.
 //
 // Promises: `tag_rest` and `end_tag` say where the tag ends, and as what, or how many bytes can stand, as the machine of crates/shape has it.
-ghost use mathlib.Core.Path.{_≡_};
-ghost use lib.ListN.{drop};
-ghost use Rattle.xml.specs.TagsCode.{equalsEnd, quotedEnd, attributeEnd, attributesEnd, endIn, tagRest, sameIn, endTag};
 ghost use Rattle.shape.specs.MachineCode.{attr, equal, valued};
 ghost use Rattle.shape.specs.ReadsCode.{Reads, tagged, ReadsAttributes, TagEnd, TagRest, SameName, closingTag, behind};
 use shape::Step;
@@ -13,22 +10,22 @@ use text::runs;
 
 // In an attribute's name: to behind its `=`.
 fn equals(file: &[u8], from: usize) -> Step
-    ensures { λ r. ⌜ (Reads (tagged attr) (tagged equal) (now (file .entry)) from r) × (r ≡ equalsEnd (now (file .entry)) from) ⌝ }
+    ensures { λ r. ⌜ Reads (tagged attr) (tagged equal) (now (file .entry)) from r ⌝ }
 {
     let end = runs::name_end(file, from);
     let sign = runs::blanks_end(file, end);
-    shape::expect(file, sign, b'=')
+    crate::expect(file, sign, b'=')
 }
 
 // Behind `=`: to behind the quoted value.
 fn quoted(file: &[u8], from: usize) -> Step
-    ensures { λ r. ⌜ (Reads (tagged equal) (tagged valued) (now (file .entry)) from r) × (r ≡ quotedEnd (now (file .entry)) from) ⌝ }
+    ensures { λ r. ⌜ Reads (tagged equal) (tagged valued) (now (file .entry)) from r ⌝ }
 {
     let quote = runs::blanks_end(file, from);
-    match shape::expect(file, quote, b'"') {
+    match crate::expect(file, quote, b'"') {
         Step::At(value) => {
             let end = runs::value_end(file, value);
-            shape::expect(file, end, b'"')
+            crate::expect(file, end, b'"')
         }
         Step::Bad(p) => Step::Bad(p),
     }
@@ -36,7 +33,7 @@ fn quoted(file: &[u8], from: usize) -> Step
 
 // In an attribute's name: to behind its value.
 fn attribute(file: &[u8], from: usize) -> Step
-    ensures { λ r. ⌜ (Reads (tagged attr) (tagged valued) (now (file .entry)) from r) × (r ≡ attributeEnd (now (file .entry)) from) ⌝ }
+    ensures { λ r. ⌜ Reads (tagged attr) (tagged valued) (now (file .entry)) from r ⌝ }
 {
     match equals(file, from) {
         Step::At(next) => quoted(file, next),
@@ -46,7 +43,7 @@ fn attribute(file: &[u8], from: usize) -> Step
 
 // Behind a tag's name or an attribute: past all attributes and blanks that follow.
 fn attributes(file: &[u8], from: usize) -> Step
-    ensures { λ r. ⌜ (ReadsAttributes (now (file .entry)) from r) × (r ≡ attributesEnd (now (file .entry)) from) ⌝ }
+    ensures { λ r. ⌜ ReadsAttributes (now (file .entry)) from r ⌝ }
 {
     let mut here = from;
     while here < file.len() {
@@ -76,12 +73,12 @@ fn attributes(file: &[u8], from: usize) -> Step
 
 // At the end of a start tag, where no blank stands.
 fn tag_end(file: &[u8], from: usize) -> Tag
-    ensures { λ r. ⌜ (TagEnd (now (file .entry)) from r) × (r ≡ endIn (drop from (now (file .entry))) from) ⌝ }
+    ensures { λ r. ⌜ TagEnd (now (file .entry)) from r ⌝ }
 {
     if from < file.len() {
         let b = file[from];
         if b == b'/' {
-            return match shape::expect(file, from + 1, b'>') {
+            return match crate::expect(file, from + 1, b'>') {
                 Step::At(end) => Tag::Empty(end),
                 Step::Bad(p) => Tag::Fault(p),
             };
@@ -95,7 +92,7 @@ fn tag_end(file: &[u8], from: usize) -> Tag
 
 // Behind a tag's name: to behind its `>`.
 pub(crate) fn tag_rest(file: &[u8], from: usize) -> Tag
-    ensures { λ r. ⌜ (TagRest (now (file .entry)) from r) × (r ≡ tagRest (now (file .entry)) from) ⌝ }
+    ensures { λ r. ⌜ TagRest (now (file .entry)) from r ⌝ }
 {
     match attributes(file, from) {
         Step::At(end) => tag_end(file, end),
@@ -105,7 +102,7 @@ pub(crate) fn tag_rest(file: &[u8], from: usize) -> Tag
 
 // The name must stand here again.
 fn same_name(file: &[u8], name: &[u8], from: usize) -> Step
-    ensures { λ r. ⌜ (SameName (now (name .entry)) (now (file .entry)) from r) × (r ≡ sameIn (now (name .entry)) (drop from (now (file .entry))) from) ⌝ }
+    ensures { λ r. ⌜ SameName (now (name .entry)) (now (file .entry)) from r ⌝ }
 {
     let mut letter = 0;
     let mut here = from;
@@ -127,12 +124,12 @@ fn same_name(file: &[u8], name: &[u8], from: usize) -> Step
 
 // Behind `</`: the name, blanks and `>`.
 pub(crate) fn end_tag(file: &[u8], name: &[u8], from: usize) -> Step
-    ensures { λ r. ⌜ (Reads (closingTag (now (name .entry))) behind (now (file .entry)) from r) × (r ≡ endTag (now (name .entry)) (now (file .entry)) from) ⌝ }
+    ensures { λ r. ⌜ Reads (closingTag (now (name .entry))) behind (now (file .entry)) from r ⌝ }
 {
     match same_name(file, name, from) {
         Step::At(next) => {
             let last = runs::blanks_end(file, next);
-            shape::expect(file, last, b'>')
+            crate::expect(file, last, b'>')
         }
         Step::Bad(p) => Step::Bad(p),
     }

@@ -3,6 +3,11 @@
 use borrow.Author.Needs.{needs}
 use Rattle.document.proofs.is_over.Statement.{statement}
 use Rattle.document.proofs.is_over.Tie as tie
+use Rattle.document.proofs.is_over.Reads as reads
+use Rattle.document.proofs.is_over.Lts as lts
+use Rattle.lists.proofs.is_flagged.Reads as is-flagged-reads
+use Rattle.schema.proofs.order_of.Reads as order-of-reads
+use Rattle.schema.proofs.times_of.Reads as times-of-reads
 use mathlib.Core.Path.{sym, ap, _∙_}
 use Rattle.document.specs.DocumentCode.{overBy, isOver}
 
@@ -14,6 +19,9 @@ enum-told c = search needs
 
 order-of-requires : tie.Need-order-of-requires
 order-of-requires c κs = search needs
+
+slice-aggregate-is-flagged : tie.Need-slice-aggregate-is-flagged
+slice-aggregate-is-flagged c = search needs
 
 is-flagged-requires : tie.Need-is-flagged-requires
 is-flagged-requires c κs = search needs
@@ -32,7 +40,7 @@ cast-result-2 c = search needs
 
 returns : tie.Need-returns
 unfolding isOver
-returns c = c .is-flagged .ensures ∙ (rw (c .before .before .order-of .ensures) (ap (λ t. overBy t (c .before .before .before .before .before .before .args .kind) (c .before .before .before .before .before .before .args .seen)) (sym (sym (c .before .before .before .before .before .times-of .ensures) ∙ c .before .before .before .enum-told .given .1))))
+returns c = c .is-flagged .ensures ∙ (rw (c .before .before .before .order-of .ensures) (ap (λ t. overBy t (c .before .before .before .before .before .before .before .args .kind) (c .before .before .before .before .before .before .before .args .seen)) (sym (sym (c .before .before .before .before .before .before .times-of .ensures) ∙ c .before .before .before .before .enum-told .given .1))))
 
 returns-2 : tie.Need-returns-2
 unfolding isOver
@@ -49,6 +57,7 @@ is-over-spec =
     times-of-requires
     enum-told
     order-of-requires
+    slice-aggregate-is-flagged
     is-flagged-requires
     enum-known-limit
     cast-result

@@ -3,11 +3,19 @@
 use borrow.Author.Needs.{needs}
 use Rattle.tables.proofs.bus_fault.Statement.{statement}
 use Rattle.tables.proofs.bus_fault.Tie as tie
-use mathlib.Core.Path.{sym, _∙_}
+use Rattle.tables.proofs.bus_fault.Reads as reads
+use Rattle.tables.proofs.bus_fault.Lts as lts
+use Rattle.lists.proofs.lacks_first.Reads as lacks-first-reads
+use Rattle.tables.proofs.first_bus.Reads as first-bus-reads
+use Rattle.tables.proofs.no_refusal.Reads as no-refusal-reads
+use mathlib.Core.Path.{refl, sym, _∙_}
 use Rattle.tables.specs.TablesCode.{busFault}
 
 cast-n : tie.Need-cast-n
 cast-n c = search needs
+
+slice-aggregate-lacks-first : tie.Need-slice-aggregate-lacks-first
+slice-aggregate-lacks-first c = search needs
 
 lacks-first-requires : tie.Need-lacks-first-requires
 lacks-first-requires c κs = search needs
@@ -29,4 +37,11 @@ returns-2 c = c .no-refusal .ensures ∙ rw (sym (c .before .before .lacks-first
 pub bus-fault-spec : {M : Type 1} → statement M
 bus-fault-spec =
     tie.close
-    (tie.spec cast-n lacks-first-requires first-bus-requires returns no-refusal-requires returns-2)
+    (tie.spec
+    cast-n
+    slice-aggregate-lacks-first
+    lacks-first-requires
+    first-bus-requires
+    returns
+    no-refusal-requires
+    returns-2)

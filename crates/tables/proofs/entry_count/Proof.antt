@@ -3,6 +3,9 @@
 use borrow.Author.Needs.{needs}
 use Rattle.tables.proofs.entry_count.Statement.{statement}
 use Rattle.tables.proofs.entry_count.Tie as tie
+use Rattle.tables.proofs.entry_count.Reads as reads
+use Rattle.tables.proofs.entry_count.Lts as lts
+use Rattle.lists.proofs.least.Reads as least-reads
 use mathlib.Core.Path.{_≡_, sym, _∙_}
 use lib.ListN.{length, length-map}
 use Rattle.writer.proofs.Sizes.{clamped}
@@ -11,7 +14,7 @@ least-requires : tie.Need-least-requires
 least-requires c κs = search needs
 
 returns : tie.Need-returns
-returns c = let l : length (c .before .args .index .entries) ≡ 382 = sym (length-map (c .before .args .index .entries) _) ∙ c .before .good .0 .1 .1 .1 .1 .1 .0 .1 .0 .1 in
+returns c = let l : length (c .before .args .index .entries) ≡ 382 = sym (length-map (c .before .args .index .entries) _) ∙ c .before .good .0 .1 .1 .1 .1 .0 .1 .0 .1 in
     clamped (c .before .args .index .entries) (c .before .args .index .count) 382 _ l (c .least .ensures)
 
 pub entry-count-spec : {M : Type 1} → statement M

@@ -3,6 +3,10 @@
 use borrow.Author.Needs.{needs}
 use Rattle.xml.proofs.after_lt.Statement.{statement}
 use Rattle.xml.proofs.after_lt.Tie as tie
+use Rattle.xml.proofs.after_lt.Reads as reads
+use Rattle.xml.proofs.after_lt.Lts as lts
+use Rattle.text.proofs.letters.is_start.Reads as is-start-reads
+use Rattle.xml.proofs.comments.comment.Reads as comment-reads
 use Prim.Native.Nat.{_+_}
 use Rattle.shape.proofs.Elements.{lt-comment, lt-close, lt-dead}
 use Rattle.shape.proofs.Run.{at-end}
@@ -28,10 +32,10 @@ enum-known-p : tie.Need-enum-known-p
 enum-known-p c = search needs
 
 returns : tie.Need-returns
-returns c = record { run = λ x. lt-comment (c .before .before .before .before .before .before .before .before .args .file .now) x (c .before .before .before .before .before .before .before .before .args .from) (c .before .before .before .before .before .before .if1 .taken) (c .before .before .before .before .if2 .taken) ∙ then-at (idle (inside (x .1) (x .0))) (c .before .before .before .before .before .before .before .before .args .file .now) (c .before .before .before .comment .result) (c .before .before .before .comment .ensures .0 .run (inside (x .1) (x .0))) (c .before .end .given .1); past = let h = past-at (c .before .before .before .before .before .before .before .before .args .file .now) (c .before .before .before .before .before .before .before .before .args .from + 1) (c .before .before .before .comment .result) (c .before .before .before .comment .ensures .0 .past) (c .before .end .given .1) in omega (arith, h .0, h .1) }
+returns c = record { run = λ x. lt-comment (c .before .before .before .before .before .before .before .before .args .file .now) x (c .before .before .before .before .before .before .before .before .args .from) (c .before .before .before .before .before .before .if1 .taken) (c .before .before .before .before .if2 .taken) ∙ then-at (idle (inside (x .1) (x .0))) (c .before .before .before .before .before .before .before .before .args .file .now) (c .before .before .before .comment .result) (c .before .before .before .comment .ensures .run (inside (x .1) (x .0))) (c .before .end .given .1); past = let h = past-at (c .before .before .before .before .before .before .before .before .args .file .now) (c .before .before .before .before .before .before .before .before .args .from + 1) (c .before .before .before .comment .result) (c .before .before .before .comment .ensures .past) (c .before .end .given .1) in omega (arith, h .0, h .1) }
 
 returns-2 : tie.Need-returns-2
-returns-2 c = record { run = λ x. lt-comment (c .before .before .before .before .before .before .before .before .args .file .now) x (c .before .before .before .before .before .before .before .before .args .from) (c .before .before .before .before .before .before .if1 .taken) (c .before .before .before .before .if2 .taken) ∙ then-bad (idle (inside (x .1) (x .0))) (c .before .before .before .before .before .before .before .before .args .file .now) (c .before .before .before .comment .result) (c .before .before .before .comment .ensures .0 .run (inside (x .1) (x .0))) (c .before .p .given .1); past = tt }
+returns-2 c = record { run = λ x. lt-comment (c .before .before .before .before .before .before .before .before .args .file .now) x (c .before .before .before .before .before .before .before .before .args .from) (c .before .before .before .before .before .before .if1 .taken) (c .before .before .before .before .if2 .taken) ∙ then-bad (idle (inside (x .1) (x .0))) (c .before .before .before .before .before .before .before .before .args .file .now) (c .before .before .before .comment .result) (c .before .before .before .comment .ensures .run (inside (x .1) (x .0))) (c .before .p .given .1); past = tt }
 
 add-t14 : tie.Need-add-t14
 add-t14 c = search needs

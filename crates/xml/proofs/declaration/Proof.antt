@@ -3,6 +3,10 @@
 use borrow.Author.Needs.{needs}
 use Rattle.xml.proofs.declaration.Statement.{statement}
 use Rattle.xml.proofs.declaration.Tie as tie
+use Rattle.xml.proofs.declaration.Reads as reads
+use Rattle.xml.proofs.declaration.Lts as lts
+use Rattle.xml.proofs.declared_text.Reads as declared-text-reads
+use Rattle.xml.proofs.expect.Reads as expect-reads
 use Rattle.shape.proofs.Files.{decl-x, decl-m}
 use Rattle.shape.proofs.Steps.{reads-then, reads-bad}
 
@@ -28,13 +32,13 @@ enum-known-p-2 : tie.Need-enum-known-p-2
 enum-known-p-2 c = search needs
 
 returns : tie.Need-returns
-returns c = reads-then (c .before .before .before .before .before .before .before .before .before .before .args .file .now) (c .before .before .before .before .before .before .before .before .before .before .args .from) (c .before .before .before .before .before .before .before .before .expect .result) (decl-x (c .before .before .before .before .before .before .before .before .before .before .args .file .now) (c .before .before .before .before .before .before .before .before .before .before .args .from) (c .before .before .before .before .before .before .before .before .expect .result) (c .before .before .before .before .before .before .before .before .expect .ensures .0)) (c .before .before .before .before .before .before .second .given .1) (reads-then (c .before .before .before .before .before .before .before .before .before .before .args .file .now) (c .before .before .before .before .before .before .second .given .0 .0) (c .before .before .before .before .expect2 .result) (decl-m (c .before .before .before .before .before .before .before .before .before .before .args .file .now) (c .before .before .before .before .before .before .second .given .0 .0) (c .before .before .before .before .expect2 .result) (c .before .before .before .before .expect2 .ensures .0)) (c .before .before .third .given .1) (c .declared-text .ensures))
+returns c = reads-then (c .before .before .before .before .before .before .before .before .before .before .args .file .now) (c .before .before .before .before .before .before .before .before .before .before .args .from) (c .before .before .before .before .before .before .before .before .expect .result) (decl-x (c .before .before .before .before .before .before .before .before .before .before .args .file .now) (c .before .before .before .before .before .before .before .before .before .before .args .from) (c .before .before .before .before .before .before .before .before .expect .result) (c .before .before .before .before .before .before .before .before .expect .ensures)) (c .before .before .before .before .before .before .second .given .1) (reads-then (c .before .before .before .before .before .before .before .before .before .before .args .file .now) (c .before .before .before .before .before .before .second .given .0 .0) (c .before .before .before .before .expect2 .result) (decl-m (c .before .before .before .before .before .before .before .before .before .before .args .file .now) (c .before .before .before .before .before .before .second .given .0 .0) (c .before .before .before .before .expect2 .result) (c .before .before .before .before .expect2 .ensures)) (c .before .before .third .given .1) (c .declared-text .ensures))
 
 returns-2 : tie.Need-returns-2
-returns-2 c = reads-then (c .before .before .before .before .before .before .before .before .before .args .file .now) (c .before .before .before .before .before .before .before .before .before .args .from) (c .before .before .before .before .before .before .before .expect .result) (decl-x (c .before .before .before .before .before .before .before .before .before .args .file .now) (c .before .before .before .before .before .before .before .before .before .args .from) (c .before .before .before .before .before .before .before .expect .result) (c .before .before .before .before .before .before .before .expect .ensures .0)) (c .before .before .before .before .before .second .given .1) (reads-bad (c .before .before .before .before .before .before .before .before .before .args .file .now) (c .before .before .before .before .before .second .given .0 .0) (c .before .before .before .expect2 .result) (decl-m (c .before .before .before .before .before .before .before .before .before .args .file .now) (c .before .before .before .before .before .second .given .0 .0) (c .before .before .before .expect2 .result) (c .before .before .before .expect2 .ensures .0)) (c .before .p .given .1))
+returns-2 c = reads-then (c .before .before .before .before .before .before .before .before .before .args .file .now) (c .before .before .before .before .before .before .before .before .before .args .from) (c .before .before .before .before .before .before .before .expect .result) (decl-x (c .before .before .before .before .before .before .before .before .before .args .file .now) (c .before .before .before .before .before .before .before .before .before .args .from) (c .before .before .before .before .before .before .before .expect .result) (c .before .before .before .before .before .before .before .expect .ensures)) (c .before .before .before .before .before .second .given .1) (reads-bad (c .before .before .before .before .before .before .before .before .before .args .file .now) (c .before .before .before .before .before .second .given .0 .0) (c .before .before .before .expect2 .result) (decl-m (c .before .before .before .before .before .before .before .before .before .args .file .now) (c .before .before .before .before .before .second .given .0 .0) (c .before .before .before .expect2 .result) (c .before .before .before .expect2 .ensures)) (c .before .p .given .1))
 
 returns-3 : tie.Need-returns-3
-returns-3 c = reads-bad (c .before .before .before .before .before .args .file .now) (c .before .before .before .before .before .args .from) (c .before .before .before .expect .result) (decl-x (c .before .before .before .before .before .args .file .now) (c .before .before .before .before .before .args .from) (c .before .before .before .expect .result) (c .before .before .before .expect .ensures .0)) (c .before .p2 .given .1)
+returns-3 c = reads-bad (c .before .before .before .before .before .args .file .now) (c .before .before .before .before .before .args .from) (c .before .before .before .expect .result) (decl-x (c .before .before .before .before .before .args .file .now) (c .before .before .before .before .before .args .from) (c .before .before .before .expect .result) (c .before .before .before .expect .ensures)) (c .before .p2 .given .1)
 
 pub declaration-spec : {M : Type 1} → statement M
 declaration-spec =

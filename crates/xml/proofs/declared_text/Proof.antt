@@ -3,6 +3,10 @@
 use borrow.Author.Needs.{needs}
 use Rattle.xml.proofs.declared_text.Statement.{statement}
 use Rattle.xml.proofs.declared_text.Tie as tie
+use Rattle.xml.proofs.declared_text.Reads as reads
+use Rattle.xml.proofs.declared_text.Lts as lts
+use Rattle.text.proofs.runs.decl_end.Reads as decl-end-reads
+use Rattle.xml.proofs.expect.Reads as expect-reads
 use Rattle.shape.proofs.Files.{decl-l, decl-gt, decl-text}
 use Rattle.shape.proofs.Steps.{reads-then, reads-bad}
 
@@ -31,13 +35,13 @@ enum-known-p-2 : tie.Need-enum-known-p-2
 enum-known-p-2 c = search needs
 
 returns : tie.Need-returns
-returns c = reads-then (c .before .before .before .before .before .before .before .before .before .before .before .args .file .now) (c .before .before .before .before .before .before .before .before .before .before .before .args .from) (c .before .before .before .before .before .before .before .before .before .expect .result) (decl-l (c .before .before .before .before .before .before .before .before .before .before .before .args .file .now) (c .before .before .before .before .before .before .before .before .before .before .before .args .from) (c .before .before .before .before .before .before .before .before .before .expect .result) (c .before .before .before .before .before .before .before .before .before .expect .ensures .0)) (c .before .before .before .before .before .before .before .inner .given .1) (reads-then (c .before .before .before .before .before .before .before .before .before .before .before .args .file .now) (c .before .before .before .before .before .before .before .inner .given .0 .0) (c .before .before .before .before .expect2 .result) (decl-text (c .before .before .before .before .before .before .before .before .before .before .before .args .file .now) (c .before .before .before .before .before .before .before .inner .given .0 .0) (c .before .before .before .before .before .decl-end .result) (c .before .before .before .before .expect2 .result) (c .before .before .before .before .before .decl-end .ensures) (c .before .before .before .before .expect2 .ensures .0)) (c .before .before .last .given .1) (decl-gt (c .before .before .before .before .before .before .before .before .before .before .before .args .file .now) (c .before .before .last .given .0 .0) (c .expect3 .result) (c .expect3 .ensures .0)))
+returns c = reads-then (c .before .before .before .before .before .before .before .before .before .before .before .args .file .now) (c .before .before .before .before .before .before .before .before .before .before .before .args .from) (c .before .before .before .before .before .before .before .before .before .expect .result) (decl-l (c .before .before .before .before .before .before .before .before .before .before .before .args .file .now) (c .before .before .before .before .before .before .before .before .before .before .before .args .from) (c .before .before .before .before .before .before .before .before .before .expect .result) (c .before .before .before .before .before .before .before .before .before .expect .ensures)) (c .before .before .before .before .before .before .before .inner .given .1) (reads-then (c .before .before .before .before .before .before .before .before .before .before .before .args .file .now) (c .before .before .before .before .before .before .before .inner .given .0 .0) (c .before .before .before .before .expect2 .result) (decl-text (c .before .before .before .before .before .before .before .before .before .before .before .args .file .now) (c .before .before .before .before .before .before .before .inner .given .0 .0) (c .before .before .before .before .before .decl-end .result) (c .before .before .before .before .expect2 .result) (c .before .before .before .before .before .decl-end .ensures) (c .before .before .before .before .expect2 .ensures)) (c .before .before .last .given .1) (decl-gt (c .before .before .before .before .before .before .before .before .before .before .before .args .file .now) (c .before .before .last .given .0 .0) (c .expect3 .result) (c .expect3 .ensures)))
 
 returns-2 : tie.Need-returns-2
-returns-2 c = reads-then (c .before .before .before .before .before .before .before .before .before .before .args .file .now) (c .before .before .before .before .before .before .before .before .before .before .args .from) (c .before .before .before .before .before .before .before .before .expect .result) (decl-l (c .before .before .before .before .before .before .before .before .before .before .args .file .now) (c .before .before .before .before .before .before .before .before .before .before .args .from) (c .before .before .before .before .before .before .before .before .expect .result) (c .before .before .before .before .before .before .before .before .expect .ensures .0)) (c .before .before .before .before .before .before .inner .given .1) (reads-bad (c .before .before .before .before .before .before .before .before .before .before .args .file .now) (c .before .before .before .before .before .before .inner .given .0 .0) (c .before .before .before .expect2 .result) (decl-text (c .before .before .before .before .before .before .before .before .before .before .args .file .now) (c .before .before .before .before .before .before .inner .given .0 .0) (c .before .before .before .before .decl-end .result) (c .before .before .before .expect2 .result) (c .before .before .before .before .decl-end .ensures) (c .before .before .before .expect2 .ensures .0)) (c .before .p .given .1))
+returns-2 c = reads-then (c .before .before .before .before .before .before .before .before .before .before .args .file .now) (c .before .before .before .before .before .before .before .before .before .before .args .from) (c .before .before .before .before .before .before .before .before .expect .result) (decl-l (c .before .before .before .before .before .before .before .before .before .before .args .file .now) (c .before .before .before .before .before .before .before .before .before .before .args .from) (c .before .before .before .before .before .before .before .before .expect .result) (c .before .before .before .before .before .before .before .before .expect .ensures)) (c .before .before .before .before .before .before .inner .given .1) (reads-bad (c .before .before .before .before .before .before .before .before .before .before .args .file .now) (c .before .before .before .before .before .before .inner .given .0 .0) (c .before .before .before .expect2 .result) (decl-text (c .before .before .before .before .before .before .before .before .before .before .args .file .now) (c .before .before .before .before .before .before .inner .given .0 .0) (c .before .before .before .before .decl-end .result) (c .before .before .before .expect2 .result) (c .before .before .before .before .decl-end .ensures) (c .before .before .before .expect2 .ensures)) (c .before .p .given .1))
 
 returns-3 : tie.Need-returns-3
-returns-3 c = reads-bad (c .before .before .before .before .before .args .file .now) (c .before .before .before .before .before .args .from) (c .before .before .before .expect .result) (decl-l (c .before .before .before .before .before .args .file .now) (c .before .before .before .before .before .args .from) (c .before .before .before .expect .result) (c .before .before .before .expect .ensures .0)) (c .before .p2 .given .1)
+returns-3 c = reads-bad (c .before .before .before .before .before .args .file .now) (c .before .before .before .before .before .args .from) (c .before .before .before .expect .result) (decl-l (c .before .before .before .before .before .args .file .now) (c .before .before .before .before .before .args .from) (c .before .before .before .expect .result) (c .before .before .before .expect .ensures)) (c .before .p2 .given .1)
 
 pub declared-text-spec : {M : Type 1} → statement M
 declared-text-spec =

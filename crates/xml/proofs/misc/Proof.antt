@@ -2,6 +2,10 @@
 -- `xml::misc` meets its contract. The loop's invariant: from here the file goes on as from where it began.
 use Rattle.xml.proofs.misc.Statement.{statement}
 use Rattle.xml.proofs.misc.Tie as tie
+use Rattle.xml.proofs.misc.Reads as reads
+use Rattle.xml.proofs.misc.Lts as lts
+use Rattle.text.proofs.runs.blanks_end.Reads as blanks-end-reads
+use Rattle.xml.proofs.comments.comment.Reads as comment-reads
 use Prim.Native.Nat.{_-_, _+_}
 use Rattle.text.proofs.Spans.{low-of, stop-of}
 use Rattle.text.specs.Kinds.{isBlank}
@@ -59,16 +63,16 @@ enum-known-end : tie.Need-enum-known-end Inv-loop μ-loop
 enum-known-end c = search needs
 
 loop-less : tie.Need-loop-less Inv-loop μ-loop
-loop-less c = let l = low-of isBlank (c .before .before .before .before .before .before .before .before .before .before .before .before .before .before .args .file .now) (c .before .before .before .before .before .before .before .before .before .before .before .before .loop .here) (c .before .before .before .before .before .before .before .before .before .before .blanks-end .result) (c .before .before .before .before .before .before .before .before .before .before .blanks-end .ensures) in let g = past-at (c .before .before .before .before .before .before .before .before .before .before .before .before .before .before .args .file .now) (c .before .before .before .before .before .before .before .before .before .before .blanks-end .result + 2) (c .before .before .before .comment .result) (c .before .before .before .comment .ensures .0 .past) (c .before .end .given .1) in omega (arith, l, g .0, g .1)
+loop-less c = let l = low-of isBlank (c .before .before .before .before .before .before .before .before .before .before .before .before .before .before .args .file .now) (c .before .before .before .before .before .before .before .before .before .before .before .before .loop .here) (c .before .before .before .before .before .before .before .before .before .before .blanks-end .result) (c .before .before .before .before .before .before .before .before .before .before .blanks-end .ensures) in let g = past-at (c .before .before .before .before .before .before .before .before .before .before .before .before .before .before .args .file .now) (c .before .before .before .before .before .before .before .before .before .before .blanks-end .result + 2) (c .before .before .before .comment .result) (c .before .before .before .comment .ensures .past) (c .before .end .given .1) in omega (arith, l, g .0, g .1)
 
 loop-again : tie.Need-loop-again Inv-loop μ-loop
-loop-again c = λ b. sym (outer-blanks (c .before .before .before .before .before .before .before .before .before .before .before .before .before .before .args .file .now) (c .before .before .before .before .before .before .before .before .before .before .before .before .loop .here) (c .before .before .before .before .before .before .before .before .before .before .blanks-end .result) b (c .before .before .before .before .before .before .before .before .before .before .blanks-end .ensures) ∙ misc-bang (c .before .before .before .before .before .before .before .before .before .before .before .before .before .before .args .file .now) (c .before .before .before .before .before .before .before .before .before .before .blanks-end .result) b (c .before .before .before .before .before .before .if3 .left) (c .before .before .before .before .before .before .before .if2 .taken) (c .before .before .before .before .if4 .taken) ∙ then-at (idle (outer b)) (c .before .before .before .before .before .before .before .before .before .before .before .before .before .before .args .file .now) (c .before .before .before .comment .result) (c .before .before .before .comment .ensures .0 .run (outer b)) (c .before .end .given .1)) ∙ c .before .before .before .before .before .before .before .before .before .before .before .before .loop .inv b
+loop-again c = λ b. sym (outer-blanks (c .before .before .before .before .before .before .before .before .before .before .before .before .before .before .args .file .now) (c .before .before .before .before .before .before .before .before .before .before .before .before .loop .here) (c .before .before .before .before .before .before .before .before .before .before .blanks-end .result) b (c .before .before .before .before .before .before .before .before .before .before .blanks-end .ensures) ∙ misc-bang (c .before .before .before .before .before .before .before .before .before .before .before .before .before .before .args .file .now) (c .before .before .before .before .before .before .before .before .before .before .blanks-end .result) b (c .before .before .before .before .before .before .if3 .left) (c .before .before .before .before .before .before .before .if2 .taken) (c .before .before .before .before .if4 .taken) ∙ then-at (idle (outer b)) (c .before .before .before .before .before .before .before .before .before .before .before .before .before .before .args .file .now) (c .before .before .before .comment .result) (c .before .before .before .comment .ensures .run (outer b)) (c .before .end .given .1)) ∙ c .before .before .before .before .before .before .before .before .before .before .before .before .loop .inv b
 
 enum-known-p : tie.Need-enum-known-p Inv-loop μ-loop
 enum-known-p c = search needs
 
 returns-3 : tie.Need-returns-3 Inv-loop μ-loop
-returns-3 c = record { run = λ b. sym (c .before .before .before .before .before .before .before .before .before .before .before .before .loop .inv b) ∙ outer-blanks (c .before .before .before .before .before .before .before .before .before .before .before .before .before .before .args .file .now) (c .before .before .before .before .before .before .before .before .before .before .before .before .loop .here) (c .before .before .before .before .before .before .before .before .before .before .blanks-end .result) b (c .before .before .before .before .before .before .before .before .before .before .blanks-end .ensures) ∙ misc-bang (c .before .before .before .before .before .before .before .before .before .before .before .before .before .before .args .file .now) (c .before .before .before .before .before .before .before .before .before .before .blanks-end .result) b (c .before .before .before .before .before .before .if3 .left) (c .before .before .before .before .before .before .before .if2 .taken) (c .before .before .before .before .if4 .taken) ∙ then-bad (idle (outer b)) (c .before .before .before .before .before .before .before .before .before .before .before .before .before .before .args .file .now) (c .before .before .before .comment .result) (c .before .before .before .comment .ensures .0 .run (outer b)) (c .before .p .given .1); found = tt }
+returns-3 c = record { run = λ b. sym (c .before .before .before .before .before .before .before .before .before .before .before .before .loop .inv b) ∙ outer-blanks (c .before .before .before .before .before .before .before .before .before .before .before .before .before .before .args .file .now) (c .before .before .before .before .before .before .before .before .before .before .before .before .loop .here) (c .before .before .before .before .before .before .before .before .before .before .blanks-end .result) b (c .before .before .before .before .before .before .before .before .before .before .blanks-end .ensures) ∙ misc-bang (c .before .before .before .before .before .before .before .before .before .before .before .before .before .before .args .file .now) (c .before .before .before .before .before .before .before .before .before .before .blanks-end .result) b (c .before .before .before .before .before .before .if3 .left) (c .before .before .before .before .before .before .before .if2 .taken) (c .before .before .before .before .if4 .taken) ∙ then-bad (idle (outer b)) (c .before .before .before .before .before .before .before .before .before .before .before .before .before .before .args .file .now) (c .before .before .before .comment .result) (c .before .before .before .comment .ensures .run (outer b)) (c .before .p .given .1); found = tt }
 
 add-t21 : tie.Need-add-t21 Inv-loop μ-loop
 add-t21 c = search needs

@@ -2,6 +2,13 @@
 -- `tables::rows::tell_drafts` meets its contract. The loop's invariant: what the rest of the entries adds is the whole.
 use Rattle.tables.proofs.rows.tell_drafts.Statement.{statement}
 use Rattle.tables.proofs.rows.tell_drafts.Tie as tie
+use Rattle.tables.proofs.rows.tell_drafts.Reads as reads
+use Rattle.tables.proofs.rows.tell_drafts.Lts as lts
+use Rattle.element.proofs.triggers.number_at.Reads as number-at-reads
+use Rattle.lists.proofs.least.Reads as least-reads
+use Rattle.tables.proofs.rows.empty_draft.Reads as empty-draft-reads
+use Rattle.tables.proofs.rows.no_drafts.Reads as no-drafts-reads
+use Rattle.tables.proofs.rows.with_part.Reads as with-part-reads
 use Prim.Native.Nat.{_-_}
 use mathlib.Core.Path.{_≡_, sym, _∙_}
 use native.Mathlib.Nat.{lt-of-lt-of-le}
@@ -18,15 +25,15 @@ Inv-loop file index n t₀ i₀ t i = Turn (tellDraft file) index n noDrafts t i
 abbrev μ-loop : tie.MeasureT-loop
 μ-loop file index n t₀ i₀ t i = n - i
 
-fewer-requires : tie.Need-fewer-requires Inv-loop μ-loop
-fewer-requires c κs = tt
+least-requires : tie.Need-least-requires Inv-loop μ-loop
+least-requires c κs = tt
 
 no-drafts-requires : tie.Need-no-drafts-requires Inv-loop μ-loop
 no-drafts-requires c κs = tt
 
 loop-holds : tie.Need-loop-holds Inv-loop μ-loop
-loop-holds c = let l : length (c .before .before .before .args .t2 .entries) ≡ 382 = sym (length-map (c .before .before .before .args .t2 .entries) _) ∙ c .before .before .before .good .1 .0 .1 .1 .1 .1 .1 .0 .1 .0 .1 in
-    (turn-none _ _ _ _ _ l (c .before .fewer .ensures) (c .no-drafts .ensures), rw (c .no-drafts .ensures))
+loop-holds c = let l : length (c .before .before .before .args .t2 .entries) ≡ 382 = sym (length-map (c .before .before .before .args .t2 .entries) _) ∙ c .before .before .before .good .1 .0 .1 .1 .1 .1 .0 .1 .0 .1 in
+    (turn-none _ _ _ _ _ l (c .before .least .ensures) (c .no-drafts .ensures), rw (c .no-drafts .ensures))
 
 mul-e : tie.Need-mul-e Inv-loop μ-loop
 mul-e c = entry-fits _ _ _ _ _ _ (c .before .loop .inv .0) (c .loop-test .taken)
@@ -112,7 +119,7 @@ tell-drafts-spec =
     (tie.spec
     Inv-loop
     μ-loop
-    fewer-requires
+    least-requires
     no-drafts-requires
     loop-holds
     mul-e

@@ -2,6 +2,13 @@
 -- `tables::rows::tell_filters` meets its contract. The loop's invariant: what the rest of the entries adds is the whole.
 use Rattle.tables.proofs.rows.tell_filters.Statement.{statement}
 use Rattle.tables.proofs.rows.tell_filters.Tie as tie
+use Rattle.tables.proofs.rows.tell_filters.Reads as reads
+use Rattle.tables.proofs.rows.tell_filters.Lts as lts
+use Rattle.element.proofs.filters.filter_at.Reads as filter-at-reads
+use Rattle.lists.proofs.least.Reads as least-reads
+use Rattle.tables.proofs.rows.channel_at.Reads as channel-at-reads
+use Rattle.tables.proofs.rows.no_filters.Reads as no-filters-reads
+use Rattle.tables.proofs.rows.with_channel.Reads as with-channel-reads
 use Prim.Native.Nat.{_-_}
 use mathlib.Core.Path.{_≡_, sym, _∙_}
 use native.Mathlib.Nat.{lt-of-lt-of-le}
@@ -18,15 +25,15 @@ Inv-loop file index n t₀ i₀ t i = Turn (tellFilter file) index n noFilters t
 abbrev μ-loop : tie.MeasureT-loop
 μ-loop file index n t₀ i₀ t i = n - i
 
-fewer-requires : tie.Need-fewer-requires Inv-loop μ-loop
-fewer-requires c κs = tt
+least-requires : tie.Need-least-requires Inv-loop μ-loop
+least-requires c κs = tt
 
 no-filters-requires : tie.Need-no-filters-requires Inv-loop μ-loop
 no-filters-requires c κs = tt
 
 loop-holds : tie.Need-loop-holds Inv-loop μ-loop
-loop-holds c = let l : length (c .before .before .before .args .t2 .entries) ≡ 382 = sym (length-map (c .before .before .before .args .t2 .entries) _) ∙ c .before .before .before .good .1 .0 .1 .1 .1 .1 .1 .0 .1 .0 .1 in
-    turn-none _ _ _ _ _ l (c .before .fewer .ensures) (c .no-filters .ensures)
+loop-holds c = let l : length (c .before .before .before .args .t2 .entries) ≡ 382 = sym (length-map (c .before .before .before .args .t2 .entries) _) ∙ c .before .before .before .good .1 .0 .1 .1 .1 .1 .0 .1 .0 .1 in
+    turn-none _ _ _ _ _ l (c .before .least .ensures) (c .no-filters .ensures)
 
 mul-e : tie.Need-mul-e Inv-loop μ-loop
 mul-e c = entry-fits _ _ _ _ _ _ (c .before .loop .inv) (c .loop-test .taken)
@@ -112,7 +119,7 @@ tell-filters-spec =
     (tie.spec
     Inv-loop
     μ-loop
-    fewer-requires
+    least-requires
     no-filters-requires
     loop-holds
     mul-e

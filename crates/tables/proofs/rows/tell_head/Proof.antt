@@ -2,6 +2,11 @@
 -- `tables::rows::tell_head` meets its contract. The loop's invariant: what the rest of the entries adds is the whole.
 use Rattle.tables.proofs.rows.tell_head.Statement.{statement}
 use Rattle.tables.proofs.rows.tell_head.Tie as tie
+use Rattle.tables.proofs.rows.tell_head.Reads as reads
+use Rattle.tables.proofs.rows.tell_head.Lts as lts
+use Rattle.element.proofs.triggers.number_at.Reads as number-at-reads
+use Rattle.lists.proofs.least.Reads as least-reads
+use Rattle.tables.proofs.rows.one_more.Reads as one-more-reads
 use Prim.Native.Nat.{_-_}
 use mathlib.Core.Path.{_≡_, refl, sym, _∙_}
 use lib.ListN.{length, length-map, length-set}
@@ -16,12 +21,12 @@ Inv-loop file index n h₀ i₀ h i = Turn (tellHead file) index n noHead h i ×
 abbrev μ-loop : tie.MeasureT-loop
 μ-loop file index n h₀ i₀ h i = n - i
 
-fewer-requires : tie.Need-fewer-requires Inv-loop μ-loop
-fewer-requires c κs = tt
+least-requires : tie.Need-least-requires Inv-loop μ-loop
+least-requires c κs = tt
 
 loop-holds : tie.Need-loop-holds Inv-loop μ-loop
-loop-holds c = let l : length (c .before .before .args .t2 .entries) ≡ 382 = sym (length-map (c .before .before .args .t2 .entries) _) ∙ c .before .before .good .1 .0 .1 .1 .1 .1 .1 .0 .1 .0 .1 in
-    (turn-none _ _ _ _ _ l (c .fewer .ensures) refl, refl)
+loop-holds c = let l : length (c .before .before .args .t2 .entries) ≡ 382 = sym (length-map (c .before .before .args .t2 .entries) _) ∙ c .before .before .good .1 .0 .1 .1 .1 .1 .0 .1 .0 .1 in
+    (turn-none _ _ _ _ _ l (c .least .ensures) refl, refl)
 
 mul-e : tie.Need-mul-e Inv-loop μ-loop
 mul-e c = entry-fits _ _ _ _ _ _ (c .before .loop .inv .0) (c .loop-test .taken)
@@ -86,7 +91,7 @@ tell-head-spec =
     (tie.spec
     Inv-loop
     μ-loop
-    fewer-requires
+    least-requires
     loop-holds
     mul-e
     element-copy-out-e

@@ -2,6 +2,11 @@
 -- `tables::rows::tell_names` meets its contract. The loop's invariant: what the rest of the entries adds is the whole.
 use Rattle.tables.proofs.rows.tell_names.Statement.{statement}
 use Rattle.tables.proofs.rows.tell_names.Tie as tie
+use Rattle.tables.proofs.rows.tell_names.Reads as reads
+use Rattle.tables.proofs.rows.tell_names.Lts as lts
+use Rattle.lists.proofs.least.Reads as least-reads
+use Rattle.tables.proofs.rows.is_trigger.Reads as is-trigger-reads
+use Rattle.tables.proofs.rows.name_at.Reads as name-at-reads
 use Prim.Native.Nat.{_-_}
 use mathlib.Core.Path.{_≡_, refl, sym, _∙_}
 use native.Mathlib.Nat.{lt-of-lt-of-le}
@@ -18,12 +23,12 @@ Inv-loop file index n t₀ i₀ t i = Turn (tellName file) index n noNames t i
 abbrev μ-loop : tie.MeasureT-loop
 μ-loop file index n t₀ i₀ t i = n - i
 
-fewer-requires : tie.Need-fewer-requires Inv-loop μ-loop
-fewer-requires c κs = tt
+least-requires : tie.Need-least-requires Inv-loop μ-loop
+least-requires c κs = tt
 
 loop-holds : tie.Need-loop-holds Inv-loop μ-loop
-loop-holds c = let l : length (c .before .before .args .t2 .entries) ≡ 382 = sym (length-map (c .before .before .args .t2 .entries) _) ∙ c .before .before .good .1 .0 .1 .1 .1 .1 .1 .0 .1 .0 .1 in
-    turn-none _ _ _ _ _ l (c .fewer .ensures) refl
+loop-holds c = let l : length (c .before .before .args .t2 .entries) ≡ 382 = sym (length-map (c .before .before .args .t2 .entries) _) ∙ c .before .before .good .1 .0 .1 .1 .1 .1 .0 .1 .0 .1 in
+    turn-none _ _ _ _ _ l (c .least .ensures) refl
 
 mul-e : tie.Need-mul-e Inv-loop μ-loop
 mul-e c = entry-fits _ _ _ _ _ _ (c .before .loop .inv) (c .loop-test .taken)
@@ -88,7 +93,7 @@ tell-names-spec =
     (tie.spec
     Inv-loop
     μ-loop
-    fewer-requires
+    least-requires
     loop-holds
     mul-e
     element-copy-out-e

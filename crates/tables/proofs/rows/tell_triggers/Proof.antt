@@ -2,6 +2,12 @@
 -- `tables::rows::tell_triggers` meets its contract. The loop's invariant: what the rest of the entries adds is the whole.
 use Rattle.tables.proofs.rows.tell_triggers.Statement.{statement}
 use Rattle.tables.proofs.rows.tell_triggers.Tie as tie
+use Rattle.tables.proofs.rows.tell_triggers.Reads as reads
+use Rattle.tables.proofs.rows.tell_triggers.Lts as lts
+use Rattle.element.proofs.triggers.trigger_at.Reads as trigger-at-reads
+use Rattle.lists.proofs.least.Reads as least-reads
+use Rattle.tables.proofs.rows.is_trigger.Reads as is-trigger-reads
+use Rattle.tables.proofs.rows.no_triggers.Reads as no-triggers-reads
 use Prim.Native.Nat.{_-_}
 use mathlib.Core.Path.{_≡_, sym, _∙_}
 use native.Mathlib.Nat.{lt-of-lt-of-le}
@@ -18,15 +24,15 @@ Inv-loop file index n t₀ i₀ t i = Turn (tellTrigger file) index n noTriggers
 abbrev μ-loop : tie.MeasureT-loop
 μ-loop file index n t₀ i₀ t i = n - i
 
-fewer-requires : tie.Need-fewer-requires Inv-loop μ-loop
-fewer-requires c κs = tt
+least-requires : tie.Need-least-requires Inv-loop μ-loop
+least-requires c κs = tt
 
 no-triggers-requires : tie.Need-no-triggers-requires Inv-loop μ-loop
 no-triggers-requires c κs = tt
 
 loop-holds : tie.Need-loop-holds Inv-loop μ-loop
-loop-holds c = let l : length (c .before .before .before .args .t2 .entries) ≡ 382 = sym (length-map (c .before .before .before .args .t2 .entries) _) ∙ c .before .before .before .good .1 .0 .1 .1 .1 .1 .1 .0 .1 .0 .1 in
-    turn-none _ _ _ _ _ l (c .before .fewer .ensures) (c .no-triggers .ensures)
+loop-holds c = let l : length (c .before .before .before .args .t2 .entries) ≡ 382 = sym (length-map (c .before .before .before .args .t2 .entries) _) ∙ c .before .before .before .good .1 .0 .1 .1 .1 .1 .0 .1 .0 .1 in
+    turn-none _ _ _ _ _ l (c .before .least .ensures) (c .no-triggers .ensures)
 
 mul-e : tie.Need-mul-e Inv-loop μ-loop
 mul-e c = entry-fits _ _ _ _ _ _ (c .before .loop .inv) (c .loop-test .taken)
@@ -79,7 +85,7 @@ tell-triggers-spec =
     (tie.spec
     Inv-loop
     μ-loop
-    fewer-requires
+    least-requires
     no-triggers-requires
     loop-holds
     mul-e

@@ -3,12 +3,11 @@
 use borrow.Author.Needs.{needs}
 use Rattle.xml.proofs.comments.comment.Statement.{statement}
 use Rattle.xml.proofs.comments.comment.Tie as tie
-use Rattle.shape.proofs.Steps.{reads-then, reads-bad, com-bang, com-bang-2, onward-at, onward-bad}
-use Rattle.xml.specs.CommentsCode.{textEnd}
-use Rattle.shape.specs.EndsCode.{expected, onward}
-use lib.ListN.{drop}
-use mathlib.Core.Bool.{false}
-use mathlib.Core.Path.{sym, _∙_}
+use Rattle.xml.proofs.comments.comment.Reads as reads
+use Rattle.xml.proofs.comments.comment.Lts as lts
+use Rattle.xml.proofs.comments.comment_text.Reads as comment-text-reads
+use Rattle.xml.proofs.expect.Reads as expect-reads
+use Rattle.shape.proofs.Steps.{reads-then, reads-bad, com-bang, com-bang-2}
 
 expect-requires : tie.Need-expect-requires
 expect-requires c κs = search needs
@@ -32,13 +31,13 @@ enum-known-p-2 : tie.Need-enum-known-p-2
 enum-known-p-2 c = search needs
 
 returns : tie.Need-returns
-returns c = (reads-then (c .before .before .before .before .before .before .before .before .before .before .args .file .now) (c .before .before .before .before .before .before .before .before .before .before .args .from) (c .before .before .before .before .before .before .before .before .expect .result) (com-bang (c .before .before .before .before .before .before .before .before .before .before .args .file .now) (c .before .before .before .before .before .before .before .before .before .before .args .from) (c .before .before .before .before .before .before .before .before .expect .result) (c .before .before .before .before .before .before .before .before .expect .ensures .0)) (c .before .before .before .before .before .before .dash .given .1) (reads-then (c .before .before .before .before .before .before .before .before .before .before .args .file .now) (c .before .before .before .before .before .before .dash .given .0 .0) (c .before .before .before .before .expect2 .result) (com-bang-2 (c .before .before .before .before .before .before .before .before .before .before .args .file .now) (c .before .before .before .before .before .before .dash .given .0 .0) (c .before .before .before .before .expect2 .result) (c .before .before .before .before .expect2 .ensures .0)) (c .before .before .inner .given .1) (c .comment-text .ensures .0)), onward-at (λ j. onward (expected 45 (c .before .before .before .before .before .before .before .before .before .before .args .file .now) j) (λ k. textEnd false (drop k (c .before .before .before .before .before .before .before .before .before .before .args .file .now)) k)) (sym (c .before .before .before .before .before .before .before .before .expect .ensures .1) ∙ c .before .before .before .before .before .before .dash .given .1) (onward-at (λ k. textEnd false (drop k (c .before .before .before .before .before .before .before .before .before .before .args .file .now)) k) (sym (c .before .before .before .before .expect2 .ensures .1) ∙ c .before .before .inner .given .1) (c .comment-text .ensures .1)))
+returns c = reads-then (c .before .before .before .before .before .before .before .before .before .before .args .file .now) (c .before .before .before .before .before .before .before .before .before .before .args .from) (c .before .before .before .before .before .before .before .before .expect .result) (com-bang (c .before .before .before .before .before .before .before .before .before .before .args .file .now) (c .before .before .before .before .before .before .before .before .before .before .args .from) (c .before .before .before .before .before .before .before .before .expect .result) (c .before .before .before .before .before .before .before .before .expect .ensures)) (c .before .before .before .before .before .before .dash .given .1) (reads-then (c .before .before .before .before .before .before .before .before .before .before .args .file .now) (c .before .before .before .before .before .before .dash .given .0 .0) (c .before .before .before .before .expect2 .result) (com-bang-2 (c .before .before .before .before .before .before .before .before .before .before .args .file .now) (c .before .before .before .before .before .before .dash .given .0 .0) (c .before .before .before .before .expect2 .result) (c .before .before .before .before .expect2 .ensures)) (c .before .before .inner .given .1) (c .comment-text .ensures))
 
 returns-2 : tie.Need-returns-2
-returns-2 c = (reads-then (c .before .before .before .before .before .before .before .before .before .args .file .now) (c .before .before .before .before .before .before .before .before .before .args .from) (c .before .before .before .before .before .before .before .expect .result) (com-bang (c .before .before .before .before .before .before .before .before .before .args .file .now) (c .before .before .before .before .before .before .before .before .before .args .from) (c .before .before .before .before .before .before .before .expect .result) (c .before .before .before .before .before .before .before .expect .ensures .0)) (c .before .before .before .before .before .dash .given .1) (reads-bad (c .before .before .before .before .before .before .before .before .before .args .file .now) (c .before .before .before .before .before .dash .given .0 .0) (c .before .before .before .expect2 .result) (com-bang-2 (c .before .before .before .before .before .before .before .before .before .args .file .now) (c .before .before .before .before .before .dash .given .0 .0) (c .before .before .before .expect2 .result) (c .before .before .before .expect2 .ensures .0)) (c .before .p .given .1)), onward-at (λ j. onward (expected 45 (c .before .before .before .before .before .before .before .before .before .args .file .now) j) (λ k. textEnd false (drop k (c .before .before .before .before .before .before .before .before .before .args .file .now)) k)) (sym (c .before .before .before .before .before .before .before .expect .ensures .1) ∙ c .before .before .before .before .before .dash .given .1) (onward-bad (λ k. textEnd false (drop k (c .before .before .before .before .before .before .before .before .before .args .file .now)) k) (sym (c .before .before .before .expect2 .ensures .1) ∙ c .before .p .given .1)))
+returns-2 c = reads-then (c .before .before .before .before .before .before .before .before .before .args .file .now) (c .before .before .before .before .before .before .before .before .before .args .from) (c .before .before .before .before .before .before .before .expect .result) (com-bang (c .before .before .before .before .before .before .before .before .before .args .file .now) (c .before .before .before .before .before .before .before .before .before .args .from) (c .before .before .before .before .before .before .before .expect .result) (c .before .before .before .before .before .before .before .expect .ensures)) (c .before .before .before .before .before .dash .given .1) (reads-bad (c .before .before .before .before .before .before .before .before .before .args .file .now) (c .before .before .before .before .before .dash .given .0 .0) (c .before .before .before .expect2 .result) (com-bang-2 (c .before .before .before .before .before .before .before .before .before .args .file .now) (c .before .before .before .before .before .dash .given .0 .0) (c .before .before .before .expect2 .result) (c .before .before .before .expect2 .ensures)) (c .before .p .given .1))
 
 returns-3 : tie.Need-returns-3
-returns-3 c = (reads-bad (c .before .before .before .before .before .args .file .now) (c .before .before .before .before .before .args .from) (c .before .before .before .expect .result) (com-bang (c .before .before .before .before .before .args .file .now) (c .before .before .before .before .before .args .from) (c .before .before .before .expect .result) (c .before .before .before .expect .ensures .0)) (c .before .p2 .given .1), onward-bad (λ j. onward (expected 45 (c .before .before .before .before .before .args .file .now) j) (λ k. textEnd false (drop k (c .before .before .before .before .before .args .file .now)) k)) (sym (c .before .before .before .expect .ensures .1) ∙ c .before .p2 .given .1))
+returns-3 c = reads-bad (c .before .before .before .before .before .args .file .now) (c .before .before .before .before .before .args .from) (c .before .before .before .expect .result) (com-bang (c .before .before .before .before .before .args .file .now) (c .before .before .before .before .before .args .from) (c .before .before .before .expect .result) (c .before .before .before .expect .ensures)) (c .before .p2 .given .1)
 
 pub comment-spec : {M : Type 1} → statement M
 comment-spec =

@@ -2,19 +2,20 @@
 -- `xml::comments::comment_text` meets its contract. The loop's invariant: from here, behind a dash or not, the text goes on as from the comment's start.
 use Rattle.xml.proofs.comments.comment_text.Statement.{statement}
 use Rattle.xml.proofs.comments.comment_text.Tie as tie
-use borrow.Author.Needs.{needs}
+use Rattle.xml.proofs.comments.comment_text.Reads as reads
+use Rattle.xml.proofs.comments.comment_text.Lts as lts
+use Rattle.text.proofs.letters.is_any.Reads as is-any-reads
+use Rattle.xml.proofs.expect.Reads as expect-reads
 use Prim.Native.Nat.{_-_, _+_, _≤_}
 use Rattle.shape.proofs.Steps.{past-from, part, com-dash, com-dash-2, com-any, com-bad, com-close, com-end}
 use Rattle.shape.specs.MachineCode.{comment, Zone, text, at}
-use Rattle.xml.proofs.CommentsEnds.{end-none, end-dash, end-dash-2, end-any, end-bad}
-use Rattle.xml.specs.CommentsCode.{textEnd}
-use lib.ListN.{length, drop}
-use mathlib.Core.Bool.{false}
+use lib.ListN.{length}
 use mathlib.Core.Path.{_≡_, sym, _∙_}
 use native.Mathlib.Omega.{arith}
+use borrow.Author.Needs.{needs}
 
 abbrev Inv-loop : tie.InvT-loop
-Inv-loop file from here₀ dashed₀ here dashed = (from ≤ here) × ((z : Zone) → at (comment (part dashed) z) file here ≡ at (comment text z) file from) × (textEnd dashed (drop here file) here ≡ textEnd false (drop from file) from)
+Inv-loop file from here₀ dashed₀ here dashed = (from ≤ here) × ((z : Zone) → at (comment (part dashed) z) file here ≡ at (comment text z) file from)
 
 abbrev μ-loop : tie.MeasureT-loop
 μ-loop file from here₀ dashed₀ here dashed = length file - here
@@ -32,7 +33,7 @@ expect-requires : tie.Need-expect-requires Inv-loop μ-loop
 expect-requires c κs = search needs
 
 returns : tie.Need-returns Inv-loop μ-loop
-returns c = let s = c .before .before .before .before .before .before .before .args .file .now in let l = c .before .before .before .before .before .loop in (record { run = λ z. sym (l .inv .1 z) ∙ com-dash-2 s z (l .here) (c .before .before .before .before .loop-test .taken) (l .dashed) (c .before .if2 .taken) (c .before .before .if1 .taken) ∙ com-close s (l .here + 1) (c .expect .result) (c .expect .ensures .0) .run z; past = past-from s _ (l .here + 1) (c .expect .result) (omega arith) (c .expect .ensures .0 .past) }, c .expect .ensures .1 ∙ sym (end-dash-2 s (l .here) (c .before .before .before .before .loop-test .taken) (l .dashed) (c .before .if2 .taken) (c .before .before .if1 .taken)) ∙ l .inv .2)
+returns c = let s = c .before .before .before .before .before .before .before .args .file .now in let l = c .before .before .before .before .before .loop in record { run = λ z. sym (l .inv .1 z) ∙ com-dash-2 s z (l .here) (c .before .before .before .before .loop-test .taken) (l .dashed) (c .before .if2 .taken) (c .before .before .if1 .taken) ∙ com-close s (l .here + 1) (c .expect .result) (c .expect .ensures) .run z; past = past-from s _ (l .here + 1) (c .expect .result) (omega arith) (c .expect .ensures .past) }
 
 add-here : tie.Need-add-here Inv-loop μ-loop
 add-here c = search needs
@@ -41,7 +42,7 @@ loop-less : tie.Need-loop-less Inv-loop μ-loop
 loop-less c = search needs
 
 loop-again : tie.Need-loop-again Inv-loop μ-loop
-loop-again c = let s = c .before .before .before .before .before .before .args .file .now in let l = c .before .before .before .before .loop in (omega arith, λ z. sym (com-dash s z (l .here) (c .before .before .before .loop-test .taken) (l .dashed) (c .if2 .left) (c .before .if1 .taken)) ∙ l .inv .1 z, sym (end-dash s (l .here) (c .before .before .before .loop-test .taken) (l .dashed) (c .if2 .left) (c .before .if1 .taken)) ∙ l .inv .2)
+loop-again c = let s = c .before .before .before .before .before .before .args .file .now in let l = c .before .before .before .before .loop in (omega arith, λ z. sym (com-dash s z (l .here) (c .before .before .before .loop-test .taken) (l .dashed) (c .if2 .left) (c .before .if1 .taken)) ∙ l .inv .1 z)
 
 is-any-requires : tie.Need-is-any-requires Inv-loop μ-loop
 is-any-requires c κs = search needs
@@ -53,13 +54,13 @@ loop-less-2 : tie.Need-loop-less-2 Inv-loop μ-loop
 loop-less-2 c = search needs
 
 loop-again-2 : tie.Need-loop-again-2 Inv-loop μ-loop
-loop-again-2 c = let s = c .before .before .before .before .before .before .before .args .file .now in let l = c .before .before .before .before .before .loop in (omega arith, λ z. sym (com-any s z (l .here) (c .before .before .before .before .loop-test .taken) (l .dashed) (c .before .before .if1 .left) (sym (c .before .is-any .ensures) ∙ c .if3 .taken)) ∙ l .inv .1 z, sym (end-any s (l .here) (c .before .before .before .before .loop-test .taken) (l .dashed) (c .before .before .if1 .left) (sym (c .before .is-any .ensures) ∙ c .if3 .taken)) ∙ l .inv .2)
+loop-again-2 c = let s = c .before .before .before .before .before .before .before .args .file .now in let l = c .before .before .before .before .before .loop in (omega arith, λ z. sym (com-any s z (l .here) (c .before .before .before .before .loop-test .taken) (l .dashed) (c .before .before .if1 .left) (sym (c .before .is-any .ensures) ∙ c .if3 .taken)) ∙ l .inv .1 z)
 
 returns-2 : tie.Need-returns-2 Inv-loop μ-loop
-returns-2 c = let s = c .before .before .before .before .before .before .before .args .file .now in let l = c .before .before .before .before .before .loop in (record { run = λ z. sym (l .inv .1 z) ∙ com-bad s z (l .here) (c .before .before .before .before .loop-test .taken) (l .dashed) (c .before .before .if1 .left) (sym (c .before .is-any .ensures) ∙ c .if3 .left); past = tt }, sym (end-bad s (l .here) (c .before .before .before .before .loop-test .taken) (l .dashed) (c .before .before .if1 .left) (sym (c .before .is-any .ensures) ∙ c .if3 .left)) ∙ l .inv .2)
+returns-2 c = let s = c .before .before .before .before .before .before .before .args .file .now in let l = c .before .before .before .before .before .loop in record { run = λ z. sym (l .inv .1 z) ∙ com-bad s z (l .here) (c .before .before .before .before .loop-test .taken) (l .dashed) (c .before .before .if1 .left) (sym (c .before .is-any .ensures) ∙ c .if3 .left); past = tt }
 
 returns-3 : tie.Need-returns-3 Inv-loop μ-loop
-returns-3 c = let l = c .before .loop in (record { run = λ z. sym (l .inv .1 z) ∙ com-end (c .before .before .before .args .file .now) z (l .here) (c .loop-test .left) (l .dashed); past = tt }, sym (end-none (c .before .before .before .args .file .now) (l .here) (c .loop-test .left) (l .dashed)) ∙ l .inv .2)
+returns-3 c = let l = c .before .loop in record { run = λ z. sym (l .inv .1 z) ∙ com-end (c .before .before .before .args .file .now) z (l .here) (c .loop-test .left) (l .dashed); past = tt }
 
 pub comment-text-spec : {M : Type 1} → statement M
 comment-text-spec =

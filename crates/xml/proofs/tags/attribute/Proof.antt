@@ -3,9 +3,11 @@
 use borrow.Author.Needs.{needs}
 use Rattle.xml.proofs.tags.attribute.Statement.{statement}
 use Rattle.xml.proofs.tags.attribute.Tie as tie
-use Rattle.shape.proofs.Steps.{reads-then, reads-bad, onward-at, onward-bad}
-use Rattle.xml.specs.TagsCode.{quotedEnd}
-use mathlib.Core.Path.{sym, _∙_}
+use Rattle.xml.proofs.tags.attribute.Reads as reads
+use Rattle.xml.proofs.tags.attribute.Lts as lts
+use Rattle.xml.proofs.tags.equals.Reads as equals-reads
+use Rattle.xml.proofs.tags.quoted.Reads as quoted-reads
+use Rattle.shape.proofs.Steps.{reads-then, reads-bad}
 
 equals-requires : tie.Need-equals-requires
 equals-requires c κs = search needs
@@ -20,10 +22,10 @@ enum-known-p : tie.Need-enum-known-p
 enum-known-p c = search needs
 
 returns : tie.Need-returns
-returns c = (reads-then (c .before .before .before .before .before .before .args .file .now) (c .before .before .before .before .before .before .args .from) (c .before .before .before .before .equals .result) (c .before .before .before .before .equals .ensures .0) (c .before .before .next .given .1) (c .quoted .ensures .0), onward-at (quotedEnd (c .before .before .before .before .before .before .args .file .now)) (sym (c .before .before .before .before .equals .ensures .1) ∙ c .before .before .next .given .1) (c .quoted .ensures .1))
+returns c = reads-then (c .before .before .before .before .before .before .args .file .now) (c .before .before .before .before .before .before .args .from) (c .before .before .before .before .equals .result) (c .before .before .before .before .equals .ensures) (c .before .before .next .given .1) (c .quoted .ensures)
 
 returns-2 : tie.Need-returns-2
-returns-2 c = (reads-bad (c .before .before .before .before .before .args .file .now) (c .before .before .before .before .before .args .from) (c .before .before .before .equals .result) (c .before .before .before .equals .ensures .0) (c .before .p .given .1), onward-bad (quotedEnd (c .before .before .before .before .before .args .file .now)) (sym (c .before .before .before .equals .ensures .1) ∙ c .before .p .given .1))
+returns-2 c = reads-bad (c .before .before .before .before .before .args .file .now) (c .before .before .before .before .before .args .from) (c .before .before .before .equals .result) (c .before .before .before .equals .ensures) (c .before .p .given .1)
 
 pub attribute-spec : {M : Type 1} → statement M
 attribute-spec =

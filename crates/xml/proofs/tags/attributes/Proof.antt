@@ -2,37 +2,40 @@
 -- `xml::tags::attributes` meets its contract. The loop's invariant: from here the tag goes on as from where it began.
 use Rattle.xml.proofs.tags.attributes.Statement.{statement}
 use Rattle.xml.proofs.tags.attributes.Tie as tie
-use borrow.Author.Needs.{needs}
-use Prim.Native.Nat.{_-_, _≤_, ℕ}
+use Rattle.xml.proofs.tags.attributes.Reads as reads
+use Rattle.xml.proofs.tags.attributes.Lts as lts
+use Rattle.text.proofs.letters.is_start.Reads as is-start-reads
+use Rattle.text.proofs.runs.blanks_end.Reads as blanks-end-reads
+use Rattle.xml.proofs.tags.attribute.Reads as attribute-reads
+use Prim.Native.Nat.{_-_, _≤_}
 use Rattle.text.proofs.Spans.{low-of, stop-of}
 use Rattle.text.specs.Kinds.{isBlank}
 use Rattle.shape.proofs.Steps.{then-at, then-bad, past-at}
 use Rattle.shape.proofs.Tags.{attrs-more, attrs-stop}
 use Rattle.shape.specs.MachineCode.{valued, at}
 use Rattle.shape.specs.ReadsCode.{Around, tagged}
-use Rattle.xml.proofs.TagsEnds.{attrs-here, attrs-over, attrs-none, attrs-last, attrs-bad, attrs-next}
-use Rattle.xml.specs.TagsCode.{attributesFrom, attributesEnd}
 use lib.ListN.{length}
 use mathlib.Core.Path.{_≡_, refl, sym, _∙_}
 use native.Mathlib.Omega.{arith}
+use borrow.Author.Needs.{needs}
 
 abbrev Inv-loop : tie.InvT-loop
-Inv-loop file from here₀ here = (from ≤ here) × ((x : Around) → at (tagged valued x) file here ≡ at (tagged valued x) file from) × ((n : ℕ) × (length file - here ≤ n) × (attributesFrom n file here ≡ attributesEnd file from))
+Inv-loop file from here₀ here = (from ≤ here) × ((x : Around) → at (tagged valued x) file here ≡ at (tagged valued x) file from)
 
 abbrev μ-loop : tie.MeasureT-loop
 μ-loop file from here₀ here = length file - here
 
 loop-holds : tie.Need-loop-holds Inv-loop μ-loop
-loop-holds c = (omega arith, λ x. refl, (length (c .before .args .file .now), omega arith, refl))
+loop-holds c = (omega arith, λ x. refl)
 
 blanks-end-requires : tie.Need-blanks-end-requires Inv-loop μ-loop
 blanks-end-requires c κs = search needs
 
 returns : tie.Need-returns Inv-loop μ-loop
-returns c = let s = c .before .before .before .before .before .args .file .now in (record { run = λ x. sym (c .before .before .before .loop .inv .1 x); stands = (c .before .before .before .loop .inv .0, λ h. rw (c .if1 .taken) at (stop-of isBlank s (c .before .before .before .loop .here) (c .before .blanks-end .result) (c .before .blanks-end .ensures) (omega (arith, h)))) }, sym (attrs-here (c .before .before .before .loop .inv .2 .0) s (c .before .before .before .loop .here) (c .before .blanks-end .result) (c .before .blanks-end .ensures) (c .if1 .taken)) ∙ c .before .before .before .loop .inv .2 .2)
+returns c = let s = c .before .before .before .before .before .args .file .now in record { run = λ x. sym (c .before .before .before .loop .inv .1 x); stands = (c .before .before .before .loop .inv .0, λ h. rw (c .if1 .taken) at (stop-of isBlank s (c .before .before .before .loop .here) (c .before .blanks-end .result) (c .before .blanks-end .ensures) (omega (arith, h)))) }
 
 returns-2 : tie.Need-returns-2 Inv-loop μ-loop
-returns-2 c = let s = c .before .before .before .before .before .before .args .file .now in let l = low-of isBlank s (c .before .before .before .before .loop .here) (c .before .before .blanks-end .result) (c .before .before .blanks-end .ensures) in (record { run = λ x. sym (c .before .before .before .before .loop .inv .1 x) ∙ attrs-stop s (c .before .before .before .before .loop .here) (c .before .before .blanks-end .result) (c .before .before .blanks-end .ensures) (c .before .if1 .left) (λ h. absurd (omega arith)) x; stands = (omega arith, stop-of isBlank s (c .before .before .before .before .loop .here) (c .before .before .blanks-end .result) (c .before .before .blanks-end .ensures)) }, sym (attrs-last s (c .before .before .before .before .loop .here) (c .before .before .blanks-end .result) (c .before .before .before .loop-test .taken) (c .before .before .blanks-end .ensures) (c .before .if1 .left) (c .before .before .before .before .loop .inv .2 .0) (c .before .before .before .before .loop .inv .2 .1) (c .if2 .taken)) ∙ c .before .before .before .before .loop .inv .2 .2)
+returns-2 c = let s = c .before .before .before .before .before .before .args .file .now in let l = low-of isBlank s (c .before .before .before .before .loop .here) (c .before .before .blanks-end .result) (c .before .before .blanks-end .ensures) in record { run = λ x. sym (c .before .before .before .before .loop .inv .1 x) ∙ attrs-stop s (c .before .before .before .before .loop .here) (c .before .before .blanks-end .result) (c .before .before .blanks-end .ensures) (c .before .if1 .left) (λ h. absurd (omega arith)) x; stands = (omega arith, stop-of isBlank s (c .before .before .before .before .loop .here) (c .before .before .blanks-end .result) (c .before .before .blanks-end .ensures)) }
 
 shared-slice-read-b : tie.Need-shared-slice-read-b Inv-loop μ-loop
 shared-slice-read-b c = search needs
@@ -50,22 +53,22 @@ enum-known-end : tie.Need-enum-known-end Inv-loop μ-loop
 enum-known-end c = search needs
 
 loop-less : tie.Need-loop-less Inv-loop μ-loop
-loop-less c = let s = c .before .before .before .before .before .before .before .before .before .before .before .before .before .args .file .now in let h = past-at s (c .before .before .before .before .before .before .before .before .before .before .before .loop .here) (c .before .before .before .attribute .result) ((attrs-more s (c .before .before .before .before .before .before .before .before .before .before .before .loop .here) (c .before .before .before .before .before .before .before .before .before .blanks-end .result) (c .before .before .before .attribute .result) (c .before .before .before .before .before .before .before .before .before .blanks-end .ensures) (c .before .before .before .before .before .before .before .before .if1 .left) (c .before .before .before .before .before .before .before .if2 .left) (sym (c .before .before .before .before .before .is-start .ensures) ∙ c .before .before .before .before .if3 .taken) (c .before .before .before .attribute .ensures .0)) .past) (c .before .end .given .1) in omega (arith, h .0, h .1)
+loop-less c = let s = c .before .before .before .before .before .before .before .before .before .before .before .before .before .args .file .now in let h = past-at s (c .before .before .before .before .before .before .before .before .before .before .before .loop .here) (c .before .before .before .attribute .result) ((attrs-more s (c .before .before .before .before .before .before .before .before .before .before .before .loop .here) (c .before .before .before .before .before .before .before .before .before .blanks-end .result) (c .before .before .before .attribute .result) (c .before .before .before .before .before .before .before .before .before .blanks-end .ensures) (c .before .before .before .before .before .before .before .before .if1 .left) (c .before .before .before .before .before .before .before .if2 .left) (sym (c .before .before .before .before .before .is-start .ensures) ∙ c .before .before .before .before .if3 .taken) (c .before .before .before .attribute .ensures)) .past) (c .before .end .given .1) in omega (arith, h .0, h .1)
 
 loop-again : tie.Need-loop-again Inv-loop μ-loop
-loop-again c = let s = c .before .before .before .before .before .before .before .before .before .before .before .before .before .args .file .now in let h = past-at s (c .before .before .before .before .before .before .before .before .before .before .before .loop .here) (c .before .before .before .attribute .result) ((attrs-more s (c .before .before .before .before .before .before .before .before .before .before .before .loop .here) (c .before .before .before .before .before .before .before .before .before .blanks-end .result) (c .before .before .before .attribute .result) (c .before .before .before .before .before .before .before .before .before .blanks-end .ensures) (c .before .before .before .before .before .before .before .before .if1 .left) (c .before .before .before .before .before .before .before .if2 .left) (sym (c .before .before .before .before .before .is-start .ensures) ∙ c .before .before .before .before .if3 .taken) (c .before .before .before .attribute .ensures .0)) .past) (c .before .end .given .1) in (omega (arith, c .before .before .before .before .before .before .before .before .before .before .before .loop .inv .0, h .0), λ x. sym (then-at (tagged valued x) s (c .before .before .before .attribute .result) ((attrs-more s (c .before .before .before .before .before .before .before .before .before .before .before .loop .here) (c .before .before .before .before .before .before .before .before .before .blanks-end .result) (c .before .before .before .attribute .result) (c .before .before .before .before .before .before .before .before .before .blanks-end .ensures) (c .before .before .before .before .before .before .before .before .if1 .left) (c .before .before .before .before .before .before .before .if2 .left) (sym (c .before .before .before .before .before .is-start .ensures) ∙ c .before .before .before .before .if3 .taken) (c .before .before .before .attribute .ensures .0)) .run x) (c .before .end .given .1)) ∙ c .before .before .before .before .before .before .before .before .before .before .before .loop .inv .1 x, let g = attrs-next s (c .before .before .before .before .before .before .before .before .before .before .before .loop .here) (c .before .before .before .before .before .before .before .before .before .blanks-end .result) (c .before .before .before .before .before .before .before .before .before .before .loop-test .taken) (c .before .before .before .before .before .before .before .before .before .blanks-end .ensures) (c .before .before .before .before .before .before .before .before .if1 .left) (c .before .before .before .before .before .before .before .before .before .before .before .loop .inv .2 .0) (c .before .end .given .0 .0) (c .before .before .before .before .before .before .before .before .before .before .before .loop .inv .2 .1) (sym (c .before .before .before .before .before .is-start .ensures) ∙ c .before .before .before .before .if3 .taken) (sym (c .before .before .before .attribute .ensures .1) ∙ c .before .end .given .1) (h .0) in (g .0, g .1, sym (g .2) ∙ c .before .before .before .before .before .before .before .before .before .before .before .loop .inv .2 .2))
+loop-again c = let s = c .before .before .before .before .before .before .before .before .before .before .before .before .before .args .file .now in let h = past-at s (c .before .before .before .before .before .before .before .before .before .before .before .loop .here) (c .before .before .before .attribute .result) ((attrs-more s (c .before .before .before .before .before .before .before .before .before .before .before .loop .here) (c .before .before .before .before .before .before .before .before .before .blanks-end .result) (c .before .before .before .attribute .result) (c .before .before .before .before .before .before .before .before .before .blanks-end .ensures) (c .before .before .before .before .before .before .before .before .if1 .left) (c .before .before .before .before .before .before .before .if2 .left) (sym (c .before .before .before .before .before .is-start .ensures) ∙ c .before .before .before .before .if3 .taken) (c .before .before .before .attribute .ensures)) .past) (c .before .end .given .1) in (omega (arith, c .before .before .before .before .before .before .before .before .before .before .before .loop .inv .0, h .0), λ x. sym (then-at (tagged valued x) s (c .before .before .before .attribute .result) ((attrs-more s (c .before .before .before .before .before .before .before .before .before .before .before .loop .here) (c .before .before .before .before .before .before .before .before .before .blanks-end .result) (c .before .before .before .attribute .result) (c .before .before .before .before .before .before .before .before .before .blanks-end .ensures) (c .before .before .before .before .before .before .before .before .if1 .left) (c .before .before .before .before .before .before .before .if2 .left) (sym (c .before .before .before .before .before .is-start .ensures) ∙ c .before .before .before .before .if3 .taken) (c .before .before .before .attribute .ensures)) .run x) (c .before .end .given .1)) ∙ c .before .before .before .before .before .before .before .before .before .before .before .loop .inv .1 x)
 
 enum-known-p : tie.Need-enum-known-p Inv-loop μ-loop
 enum-known-p c = search needs
 
 returns-3 : tie.Need-returns-3 Inv-loop μ-loop
-returns-3 c = let s = c .before .before .before .before .before .before .before .before .before .before .before .before .before .args .file .now in (record { run = λ x. sym (c .before .before .before .before .before .before .before .before .before .before .before .loop .inv .1 x) ∙ then-bad (tagged valued x) s (c .before .before .before .attribute .result) ((attrs-more s (c .before .before .before .before .before .before .before .before .before .before .before .loop .here) (c .before .before .before .before .before .before .before .before .before .blanks-end .result) (c .before .before .before .attribute .result) (c .before .before .before .before .before .before .before .before .before .blanks-end .ensures) (c .before .before .before .before .before .before .before .before .if1 .left) (c .before .before .before .before .before .before .before .if2 .left) (sym (c .before .before .before .before .before .is-start .ensures) ∙ c .before .before .before .before .if3 .taken) (c .before .before .before .attribute .ensures .0)) .run x) (c .before .p .given .1); stands = tt }, sym (attrs-bad s (c .before .before .before .before .before .before .before .before .before .before .before .loop .here) (c .before .before .before .before .before .before .before .before .before .blanks-end .result) (c .before .before .before .before .before .before .before .before .before .before .loop-test .taken) (c .before .before .before .before .before .before .before .before .before .blanks-end .ensures) (c .before .before .before .before .before .before .before .before .if1 .left) (c .before .before .before .before .before .before .before .before .before .before .before .loop .inv .2 .0) (c .before .p .given .0 .0) (c .before .before .before .before .before .before .before .before .before .before .before .loop .inv .2 .1) (sym (c .before .before .before .before .before .is-start .ensures) ∙ c .before .before .before .before .if3 .taken) (sym (c .before .before .before .attribute .ensures .1) ∙ c .before .p .given .1)) ∙ c .before .before .before .before .before .before .before .before .before .before .before .loop .inv .2 .2)
+returns-3 c = let s = c .before .before .before .before .before .before .before .before .before .before .before .before .before .args .file .now in record { run = λ x. sym (c .before .before .before .before .before .before .before .before .before .before .before .loop .inv .1 x) ∙ then-bad (tagged valued x) s (c .before .before .before .attribute .result) ((attrs-more s (c .before .before .before .before .before .before .before .before .before .before .before .loop .here) (c .before .before .before .before .before .before .before .before .before .blanks-end .result) (c .before .before .before .attribute .result) (c .before .before .before .before .before .before .before .before .before .blanks-end .ensures) (c .before .before .before .before .before .before .before .before .if1 .left) (c .before .before .before .before .before .before .before .if2 .left) (sym (c .before .before .before .before .before .is-start .ensures) ∙ c .before .before .before .before .if3 .taken) (c .before .before .before .attribute .ensures)) .run x) (c .before .p .given .1); stands = tt }
 
 returns-4 : tie.Need-returns-4 Inv-loop μ-loop
-returns-4 c = let s = c .before .before .before .before .before .before .before .before .before .args .file .now in let l = low-of isBlank s (c .before .before .before .before .before .before .before .loop .here) (c .before .before .before .before .before .blanks-end .result) (c .before .before .before .before .before .blanks-end .ensures) in (record { run = λ x. sym (c .before .before .before .before .before .before .before .loop .inv .1 x) ∙ attrs-stop s (c .before .before .before .before .before .before .before .loop .here) (c .before .before .before .before .before .blanks-end .result) (c .before .before .before .before .before .blanks-end .ensures) (c .before .before .before .before .if1 .left) (λ h. sym (c .before .is-start .ensures) ∙ c .if3 .left) x; stands = (omega (arith, c .before .before .before .before .before .before .before .loop .inv .0), stop-of isBlank s (c .before .before .before .before .before .before .before .loop .here) (c .before .before .before .before .before .blanks-end .result) (c .before .before .before .before .before .blanks-end .ensures)) }, sym (attrs-none s (c .before .before .before .before .before .before .before .loop .here) (c .before .before .before .before .before .blanks-end .result) (c .before .before .before .before .before .before .loop-test .taken) (c .before .before .before .before .before .blanks-end .ensures) (c .before .before .before .before .if1 .left) (c .before .before .before .before .before .before .before .loop .inv .2 .0) (c .before .before .before .before .before .before .before .loop .inv .2 .1) (sym (c .before .is-start .ensures) ∙ c .if3 .left)) ∙ c .before .before .before .before .before .before .before .loop .inv .2 .2)
+returns-4 c = let s = c .before .before .before .before .before .before .before .before .before .args .file .now in let l = low-of isBlank s (c .before .before .before .before .before .before .before .loop .here) (c .before .before .before .before .before .blanks-end .result) (c .before .before .before .before .before .blanks-end .ensures) in record { run = λ x. sym (c .before .before .before .before .before .before .before .loop .inv .1 x) ∙ attrs-stop s (c .before .before .before .before .before .before .before .loop .here) (c .before .before .before .before .before .blanks-end .result) (c .before .before .before .before .before .blanks-end .ensures) (c .before .before .before .before .if1 .left) (λ h. sym (c .before .is-start .ensures) ∙ c .if3 .left) x; stands = (omega (arith, c .before .before .before .before .before .before .before .loop .inv .0), stop-of isBlank s (c .before .before .before .before .before .before .before .loop .here) (c .before .before .before .before .before .blanks-end .result) (c .before .before .before .before .before .blanks-end .ensures)) }
 
 returns-5 : tie.Need-returns-5 Inv-loop μ-loop
-returns-5 c = (record { run = λ x. sym (c .before .loop .inv .1 x); stands = (c .before .loop .inv .0, λ h. absurd (omega arith)) }, sym (attrs-over (c .before .loop .inv .2 .0) (c .before .before .before .args .file .now) (c .before .loop .here) (c .loop-test .left)) ∙ c .before .loop .inv .2 .2)
+returns-5 c = record { run = λ x. sym (c .before .loop .inv .1 x); stands = (c .before .loop .inv .0, λ h. absurd (omega arith)) }
 
 pub attributes-spec : {M : Type 1} → statement M
 attributes-spec =

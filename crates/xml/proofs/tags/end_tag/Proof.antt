@@ -6,13 +6,9 @@ use Rattle.xml.proofs.tags.end_tag.Tie as tie
 use Rattle.xml.proofs.tags.end_tag.Reads as reads
 use Rattle.xml.proofs.tags.end_tag.Lts as lts
 use Rattle.text.proofs.runs.blanks_end.Reads as blanks-end-reads
-use Rattle.shape.proofs.expect.Reads as expect-reads
+use Rattle.xml.proofs.expect.Reads as expect-reads
 use Rattle.xml.proofs.tags.same_name.Reads as same-name-reads
-use Rattle.shape.proofs.Steps.{onward-at, onward-bad}
 use Rattle.shape.proofs.Tags.{end-reads, end-bad}
-use Rattle.shape.specs.EndsCode.{expected}
-use Rattle.xml.specs.TagsCode.{blanksEnd}
-use mathlib.Core.Path.{sym, ap, _∙_}
 
 same-name-requires : tie.Need-same-name-requires
 same-name-requires c κs = search needs
@@ -30,10 +26,10 @@ enum-known-p : tie.Need-enum-known-p
 enum-known-p c = search needs
 
 returns : tie.Need-returns
-returns c = (end-reads (c .before .before .before .before .before .before .before .before .args .file .now) (c .before .before .before .before .before .before .before .before .args .name .now) (c .before .before .before .before .before .before .before .before .args .from) (c .before .before .before .next .given .0 .0) (c .before .blanks-end .result) (c .before .before .before .before .before .same-name .result) (c .expect .result) (c .before .before .before .before .before .same-name .ensures .0) (c .before .before .before .next .given .1) (c .before .blanks-end .ensures) (c .expect .ensures .0), onward-at (λ j. expected 62 (c .before .before .before .before .before .before .before .before .args .file .now) (blanksEnd (c .before .before .before .before .before .before .before .before .args .file .now) j)) (sym (c .before .before .before .before .before .same-name .ensures .1) ∙ c .before .before .before .next .given .1) (c .expect .ensures .1 ∙ ap (expected 62 (c .before .before .before .before .before .before .before .before .args .file .now)) (c .before .blanks-end .ensures)))
+returns c = end-reads (c .before .before .before .before .before .before .before .before .args .file .now) (c .before .before .before .before .before .before .before .before .args .name .now) (c .before .before .before .before .before .before .before .before .args .from) (c .before .before .before .next .given .0 .0) (c .before .blanks-end .result) (c .before .before .before .before .before .same-name .result) (c .expect .result) (c .before .before .before .before .before .same-name .ensures) (c .before .before .before .next .given .1) (c .before .blanks-end .ensures) (c .expect .ensures)
 
 returns-2 : tie.Need-returns-2
-returns-2 c = (end-bad (c .before .before .before .before .before .before .args .file .now) (c .before .before .before .before .before .before .args .name .now) (c .before .before .before .before .before .before .args .from) (c .before .before .before .same-name .result) (c .before .before .before .same-name .ensures .0) (c .before .p .given .1), onward-bad (λ j. expected 62 (c .before .before .before .before .before .before .args .file .now) (blanksEnd (c .before .before .before .before .before .before .args .file .now) j)) (sym (c .before .before .before .same-name .ensures .1) ∙ c .before .p .given .1))
+returns-2 c = end-bad (c .before .before .before .before .before .before .args .file .now) (c .before .before .before .before .before .before .args .name .now) (c .before .before .before .before .before .before .args .from) (c .before .before .before .same-name .result) (c .before .before .before .same-name .ensures) (c .before .p .given .1)
 
 pub end-tag-spec : {M : Type 1} → statement M
 end-tag-spec =

@@ -3,12 +3,13 @@
 use borrow.Author.Needs.{needs}
 use Rattle.xml.proofs.tags.quoted.Statement.{statement}
 use Rattle.xml.proofs.tags.quoted.Tie as tie
-use Rattle.text.specs.Kinds.{isValue, spanAt}
-use Rattle.shape.proofs.Steps.{reads-then, reads-bad, onward-at, onward-bad}
+use Rattle.xml.proofs.tags.quoted.Reads as reads
+use Rattle.xml.proofs.tags.quoted.Lts as lts
+use Rattle.text.proofs.runs.blanks_end.Reads as blanks-end-reads
+use Rattle.text.proofs.runs.value_end.Reads as value-end-reads
+use Rattle.xml.proofs.expect.Reads as expect-reads
+use Rattle.shape.proofs.Steps.{reads-then, reads-bad}
 use Rattle.shape.proofs.Tags.{quote-reads, value-reads}
-use Rattle.shape.specs.EndsCode.{expected}
-use lib.ListN.{drop}
-use mathlib.Core.Path.{sym, ap, _∙_}
 
 blanks-end-requires : tie.Need-blanks-end-requires
 blanks-end-requires c κs = search needs
@@ -29,10 +30,10 @@ enum-known-p : tie.Need-enum-known-p
 enum-known-p c = search needs
 
 returns : tie.Need-returns
-returns c = let s = c .before .before .before .before .before .before .before .before .args .file .now in (reads-then s (c .before .before .before .before .before .before .before .before .args .from) (c .before .before .before .before .before .expect .result) (quote-reads s (c .before .before .before .before .before .before .before .before .args .from) (c .before .before .before .before .before .before .blanks-end .result) (c .before .before .before .before .before .expect .result) (c .before .before .before .before .before .before .blanks-end .ensures) (c .before .before .before .before .before .expect .ensures .0)) (c .before .before .before .value .given .1) (value-reads s (c .before .before .before .value .given .0 .0) (c .before .value-end .result) (c .expect2 .result) (c .before .value-end .ensures) (c .expect2 .ensures .0)), onward-at (λ v. expected 34 s (spanAt isValue (drop v s) v)) (ap (expected 34 s) (sym (c .before .before .before .before .before .before .blanks-end .ensures)) ∙ sym (c .before .before .before .before .before .expect .ensures .1) ∙ c .before .before .before .value .given .1) (c .expect2 .ensures .1 ∙ ap (expected 34 s) (c .before .value-end .ensures)))
+returns c = let s = c .before .before .before .before .before .before .before .before .args .file .now in reads-then s (c .before .before .before .before .before .before .before .before .args .from) (c .before .before .before .before .before .expect .result) (quote-reads s (c .before .before .before .before .before .before .before .before .args .from) (c .before .before .before .before .before .before .blanks-end .result) (c .before .before .before .before .before .expect .result) (c .before .before .before .before .before .before .blanks-end .ensures) (c .before .before .before .before .before .expect .ensures)) (c .before .before .before .value .given .1) (value-reads s (c .before .before .before .value .given .0 .0) (c .before .value-end .result) (c .expect2 .result) (c .before .value-end .ensures) (c .expect2 .ensures))
 
 returns-2 : tie.Need-returns-2
-returns-2 c = let s = c .before .before .before .before .before .before .args .file .now in (reads-bad s (c .before .before .before .before .before .before .args .from) (c .before .before .before .expect .result) (quote-reads s (c .before .before .before .before .before .before .args .from) (c .before .before .before .before .blanks-end .result) (c .before .before .before .expect .result) (c .before .before .before .before .blanks-end .ensures) (c .before .before .before .expect .ensures .0)) (c .before .p .given .1), onward-bad (λ v. expected 34 s (spanAt isValue (drop v s) v)) (ap (expected 34 s) (sym (c .before .before .before .before .blanks-end .ensures)) ∙ sym (c .before .before .before .expect .ensures .1) ∙ c .before .p .given .1))
+returns-2 c = let s = c .before .before .before .before .before .before .args .file .now in reads-bad s (c .before .before .before .before .before .before .args .from) (c .before .before .before .expect .result) (quote-reads s (c .before .before .before .before .before .before .args .from) (c .before .before .before .before .blanks-end .result) (c .before .before .before .expect .result) (c .before .before .before .before .blanks-end .ensures) (c .before .before .before .expect .ensures)) (c .before .p .given .1)
 
 pub quoted-spec : {M : Type 1} → statement M
 quoted-spec =

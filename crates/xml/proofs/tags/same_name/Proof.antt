@@ -4,30 +4,28 @@ use Rattle.xml.proofs.tags.same_name.Statement.{statement}
 use Rattle.xml.proofs.tags.same_name.Tie as tie
 use Rattle.xml.proofs.tags.same_name.Reads as reads
 use Rattle.xml.proofs.tags.same_name.Lts as lts
-use borrow.Author.Needs.{needs}
 use Prim.Native.Nat.{ℕ, _-_, _≤_}
 use Rattle.shape.proofs.Run.{at-end}
 use Rattle.shape.proofs.Tags.{name-step, name-dead, name-over}
 use Rattle.shape.specs.MachineCode.{at}
 use Rattle.shape.specs.ReadsCode.{closingTag}
-use Rattle.xml.proofs.TagsEnds.{same-over, same-end, same-step, same-dead}
-use Rattle.xml.specs.TagsCode.{sameIn}
 use lib.ListN.{length, drop}
 use mathlib.Core.List.{List}
 use mathlib.Core.Path.{_≡_, refl, sym, _∙_}
 use native.Mathlib.Omega.{arith}
+use borrow.Author.Needs.{needs}
 
 abbrev Inv-loop : tie.InvT-loop
-Inv-loop file name from letter₀ here₀ letter here = (from ≤ here) × ((k : List (List ℕ)) → at (closingTag (drop letter name) k) file here ≡ at (closingTag name k) file from) × (sameIn (drop letter name) (drop here file) here ≡ sameIn name (drop from file) from)
+Inv-loop file name from letter₀ here₀ letter here = (from ≤ here) × ((k : List (List ℕ)) → at (closingTag (drop letter name) k) file here ≡ at (closingTag name k) file from)
 
 abbrev μ-loop : tie.MeasureT-loop
 μ-loop file name from letter₀ here₀ letter here = length name - letter
 
 loop-holds : tie.Need-loop-holds Inv-loop μ-loop
-loop-holds c = (omega arith, λ k. refl, refl)
+loop-holds c = (omega arith, λ k. refl)
 
 returns : tie.Need-returns Inv-loop μ-loop
-returns c = (record { run = λ k. sym (c .before .before .loop .inv .1 k) ∙ at-end (closingTag (drop (c .before .before .loop .letter) (c .before .before .before .args .name .now)) k) (c .before .before .before .args .file .now) (c .before .before .loop .here) (c .if1 .taken); from = tt }, sym (same-end (c .before .before .before .args .file .now) (c .before .before .before .args .name .now) (c .before .before .loop .letter) (c .before .before .loop .here) (c .before .loop-test .taken) (c .if1 .taken)) ∙ c .before .before .loop .inv .2)
+returns c = record { run = λ k. sym (c .before .before .loop .inv .1 k) ∙ at-end (closingTag (drop (c .before .before .loop .letter) (c .before .before .before .args .name .now)) k) (c .before .before .before .args .file .now) (c .before .before .loop .here) (c .if1 .taken); from = tt }
 
 shared-slice-read-found : tie.Need-shared-slice-read-found Inv-loop μ-loop
 shared-slice-read-found c = search needs
@@ -45,13 +43,13 @@ loop-less : tie.Need-loop-less Inv-loop μ-loop
 loop-less c = omega arith
 
 loop-again : tie.Need-loop-again Inv-loop μ-loop
-loop-again c = (omega arith, λ k. sym (name-step (c .before .before .before .before .before .before .args .file .now) (c .before .before .before .before .before .before .args .name .now) k (c .before .before .before .before .before .loop .letter) (c .before .before .before .before .before .loop .here) (c .before .before .before .before .loop-test .taken) (c .before .before .before .if1 .left) (c .if2 .taken)) ∙ c .before .before .before .before .before .loop .inv .1 k, sym (same-step (c .before .before .before .before .before .before .args .file .now) (c .before .before .before .before .before .before .args .name .now) (c .before .before .before .before .before .loop .letter) (c .before .before .before .before .before .loop .here) (c .before .before .before .before .loop-test .taken) (c .before .before .before .if1 .left) (c .if2 .taken)) ∙ c .before .before .before .before .before .loop .inv .2)
+loop-again c = (omega arith, λ k. sym (name-step (c .before .before .before .before .before .before .args .file .now) (c .before .before .before .before .before .before .args .name .now) k (c .before .before .before .before .before .loop .letter) (c .before .before .before .before .before .loop .here) (c .before .before .before .before .loop-test .taken) (c .before .before .before .if1 .left) (c .if2 .taken)) ∙ c .before .before .before .before .before .loop .inv .1 k)
 
 returns-2 : tie.Need-returns-2 Inv-loop μ-loop
-returns-2 c = (record { run = λ k. sym (c .before .before .before .before .before .loop .inv .1 k) ∙ name-dead (c .before .before .before .before .before .before .args .file .now) (c .before .before .before .before .before .before .args .name .now) k (c .before .before .before .before .before .loop .letter) (c .before .before .before .before .before .loop .here) (c .before .before .before .before .loop-test .taken) (c .before .before .before .if1 .left) (c .if2 .left); from = tt }, sym (same-dead (c .before .before .before .before .before .before .args .file .now) (c .before .before .before .before .before .before .args .name .now) (c .before .before .before .before .before .loop .letter) (c .before .before .before .before .before .loop .here) (c .before .before .before .before .loop-test .taken) (c .before .before .before .if1 .left) (c .if2 .left)) ∙ c .before .before .before .before .before .loop .inv .2)
+returns-2 c = record { run = λ k. sym (c .before .before .before .before .before .loop .inv .1 k) ∙ name-dead (c .before .before .before .before .before .before .args .file .now) (c .before .before .before .before .before .before .args .name .now) k (c .before .before .before .before .before .loop .letter) (c .before .before .before .before .before .loop .here) (c .before .before .before .before .loop-test .taken) (c .before .before .before .if1 .left) (c .if2 .left); from = tt }
 
 returns-3 : tie.Need-returns-3 Inv-loop μ-loop
-returns-3 c = (record { run = λ k. sym (c .before .loop .inv .1 k) ∙ name-over (c .before .before .args .file .now) (c .before .before .args .name .now) k (c .before .loop .letter) (c .before .loop .here) (c .loop-test .left); from = c .before .loop .inv .0 }, sym (same-over (c .before .before .args .file .now) (c .before .before .args .name .now) (c .before .loop .letter) (c .before .loop .here) (c .loop-test .left)) ∙ c .before .loop .inv .2)
+returns-3 c = record { run = λ k. sym (c .before .loop .inv .1 k) ∙ name-over (c .before .before .args .file .now) (c .before .before .args .name .now) k (c .before .loop .letter) (c .before .loop .here) (c .loop-test .left); from = c .before .loop .inv .0 }
 
 pub same-name-spec : {M : Type 1} → statement M
 same-name-spec =

@@ -3,12 +3,14 @@
 use borrow.Author.Needs.{needs}
 use Rattle.xml.proofs.tags.tag_rest.Statement.{statement}
 use Rattle.xml.proofs.tags.tag_rest.Tie as tie
+use Rattle.xml.proofs.tags.tag_rest.Reads as reads
+use Rattle.xml.proofs.tags.tag_rest.Lts as lts
+use Rattle.xml.proofs.tags.attributes.Reads as attributes-reads
+use Rattle.xml.proofs.tags.tag_end.Reads as tag-end-reads
 use Rattle.shape.proofs.Steps.{then-bad}
 use Rattle.shape.proofs.Tags.{rest-end}
 use Rattle.shape.specs.MachineCode.{valued}
 use Rattle.shape.specs.ReadsCode.{tagged}
-use Rattle.xml.specs.TagsCode.{endBehind}
-use mathlib.Core.Path.{sym, ap, _∙_}
 
 attributes-requires : tie.Need-attributes-requires
 attributes-requires c κs = search needs
@@ -23,10 +25,10 @@ enum-known-p : tie.Need-enum-known-p
 enum-known-p c = search needs
 
 returns : tie.Need-returns
-returns c = (rest-end (c .before .before .before .before .before .before .args .file .now) (c .before .before .before .before .before .before .args .from) (c .before .before .end .given .0 .0) (c .before .before .before .before .attributes .result) (c .tag-end .result) (c .before .before .before .before .attributes .ensures .0) (c .before .before .end .given .1) (c .tag-end .ensures .0), c .tag-end .ensures .1 ∙ ap (endBehind (c .before .before .before .before .before .before .args .file .now)) (sym (c .before .before .end .given .1) ∙ c .before .before .before .before .attributes .ensures .1))
+returns c = rest-end (c .before .before .before .before .before .before .args .file .now) (c .before .before .before .before .before .before .args .from) (c .before .before .end .given .0 .0) (c .before .before .before .before .attributes .result) (c .tag-end .result) (c .before .before .before .before .attributes .ensures) (c .before .before .end .given .1) (c .tag-end .ensures)
 
 returns-2 : tie.Need-returns-2
-returns-2 c = (record { run = λ x. then-bad (tagged valued x) (c .before .before .before .before .before .args .file .now) (c .before .before .before .attributes .result) (c .before .before .before .attributes .ensures .0 .run x) (c .before .p .given .1); past = tt }, ap (endBehind (c .before .before .before .before .before .args .file .now)) (sym (c .before .p .given .1) ∙ c .before .before .before .attributes .ensures .1))
+returns-2 c = record { run = λ x. then-bad (tagged valued x) (c .before .before .before .before .before .args .file .now) (c .before .before .before .attributes .result) (c .before .before .before .attributes .ensures .run x) (c .before .p .given .1); past = tt }
 
 pub tag-rest-spec : {M : Type 1} → statement M
 tag-rest-spec =

@@ -1,2 +1,0 @@
-mod TagsEnds
-mod CommentsEnds

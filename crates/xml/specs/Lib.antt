@@ -1,2 +1,0 @@
-pub mod TagsCode
-pub mod CommentsCode
