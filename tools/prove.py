@@ -207,6 +207,7 @@ def make_all(crate, fns):
     for fn in left:
         if fn in aside: write(proof_of(crate, fn), aside[fn])
         print(f'{fn}: the checker asks for nothing; its proof file is as it was')
+    subprocess.run(['rt', 'fmt'], capture_output=True)
     show(check(crate, '--allow-holes') if not left else said)
 
 

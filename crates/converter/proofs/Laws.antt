@@ -24,7 +24,7 @@ use Rattle.writer.specs.SheetCode.{sheetWords, Writes}
 use Rattle.tables.specs.declared.rows.Told.{Told}
 use Rattle.tables.specs.RowsCode.{told}
 use Rattle.file_rules.specs.declared.Refusal.{Refusal}
-use Rattle.tables.specs.declared.Tables.{Tables}
+use Rattle.tables.specs.declared.Telling.{Telling}
 use Rattle.file_rules.specs.Tables.{tablesOf, tableFaults}
 use Rattle.tables.specs.TablesCode.{tableFault, tabled, Tabled}
 use Rattle.file_rules.specs.RefusalCode.{refusedAt}
@@ -109,10 +109,10 @@ module _ (f : List ℕ) where
       subst (Refuses f d) (sym q)
       (refuse-by d y short w e (tableFaults (knownElements y)) refl (λ z. h (ap (λ (r : Refusal). r .number) q ∙ z)))
 
-  pub converts-refused : (d : List ℕ) (r : Tables) → Tabled f r → (r .fault .number ≡ 0 → ⊥)
+  pub converts-refused : (d : List ℕ) (r : Telling) → Tabled f r → (r .fault .number ≡ 0 → ⊥)
       → Converts f d (answer.Refused (r .fault .number) (r .fault .place)) d
   converts-refused d r t h =
-      let q : r .fault ≡ tabled f (t .index) .fault = ap (λ (z : Tables). z .fault) (t .same-tables) in
+      let q : r .fault ≡ tabled f (t .index) .fault = ap (λ (z : Telling). z .fault) (t .same-tables) in
       subst (Refuses f d) (sym q) (refuse-at d (t .index) (t .indexes) (λ z. h (ap (λ (y : Refusal). y .number) q ∙ z)))
 
   -- ---- no refusal by the tables
@@ -133,11 +133,11 @@ module _ (f : List ℕ) where
       ∙ reads-well f y short w e .fault in
       clear-by y short w e (tableFaults (knownElements y)) refl (sym (ap (λ (r : Refusal). r .number) q) ∙ h)
 
-  pub clear : (r : Tables) → Tabled f r → r .fault .number ≡ 0 → Clear f (r .told)
+  pub clear : (r : Telling) → Tabled f r → r .fault .number ≡ 0 → Clear f (r .told)
   unfolding tabled
   clear r t h =
-      let q : r .fault ≡ tabled f (t .index) .fault = ap (λ (z : Tables). z .fault) (t .same-tables) in
-      let p : r .told ≡ told f (t .index) = ap (λ (z : Tables). z .told) (t .same-tables) in
+      let q : r .fault ≡ tabled f (t .index) .fault = ap (λ (z : Telling). z .fault) (t .same-tables) in
+      let p : r .told ≡ told f (t .index) = ap (λ (z : Telling). z .told) (t .same-tables) in
       subst (Clear f) (sym p) (clear-at (t .index) (t .indexes) (sym (ap (λ (y : Refusal). y .number) q) ∙ h))
 
 -- ---- the expressions, and the words: of a document that is clear so far

@@ -2,12 +2,10 @@
 -- plan.
 use Prim.Native.Nat.{ℕ, suc, _+_, _≤_, _<_}
 use native.Mathlib.Omega.{arith}
-use native.Mathlib.Numerals.{add-one}
 use mathlib.Core.Path.{_≡_, refl, sym, ap, subst, _∙_}
 use mathlib.Core.Bool.{Bool}
 use mathlib.Core.List.{List, [], _∷_, _++_, map, map-map, append-nil, append-assoc}
 use lib.ListN.{length, take, set, length-set, length-map}
-use lib.Seq.{take-suc-set}
 use borrow.Author.Tests.{lt-ltb}
 use Rattle.shape.specs.Shape.{Node}
 use Rattle.records.specs.Records.{newest, flag, PlanStatement, triggerWords, filterWords, actionWord, statementWords}
@@ -39,6 +37,7 @@ use Rattle.converter.specs.StatementsCode.{compiledAt, noLines, lineFrom
 use Rattle.converter.specs.ConverterCode.{sheetOf}
 use Rattle.lists.specs.Lists.{gathered}
 use Rattle.file_rules.specs.RefusalCode.{refusedAt}
+use Rattle.lists.proofs.Fills.{set-next}
 
 words-same : (p q : ℕ) (a : List ℕ) (b : List Action) (w v : List ℕ) → p ≡ q → a ≡ map actionWord b → w ≡ v
     → p ∷ length a ∷ length w ∷ (a ++ w) ≡ q ∷ length b ∷ length v ∷ (map actionWord b ++ v)
@@ -48,9 +47,6 @@ words-same p q a b w v e g h = rw (e, g, h, length-map b actionWord)
 push-one : (l : Lines) (x : Line) → l .count < 16 → pushLine l x ≡ record { rows = set (l .rows) (l .count) x; count = l .count + 1 }
 unfolding pushLine
 push-one l x h = rw (lt-ltb (l .count) 16 h)
-
-one-more : (rows : List Line) (i : ℕ) (x : Line) → i < length rows → take (i + 1) (set rows i x) ≡ take i rows ++ (x ∷ [])
-one-more rows i x h = ap (λ (n : ℕ). take n (set rows i x)) (add-one i) ∙ take-suc-set rows i x h
 
 each-long : {X Y : Type 0} (r : X → Y → Type 0) (xs : List X) (ys : List Y) → Each r xs ys → length xs ≡ length ys
 each-long r xs ys Each.over = refl
@@ -84,7 +80,7 @@ module _ (f : List ℕ) (n : Names) (names : List (List ℕ)) (same-names : name
       let m : Lines = record { rows = set (l .rows) (l .count) (line d); count = l .count + 1 } in
       let p : pushLine l (line d) ≡ m = push-one l (line d) (omega arith) in
       let q = pushed-all ds m (length-set (l .rows) (l .count) (line d) ∙ r) (omega arith) in
-      let o = one-more (l .rows) (l .count) (line d) (omega arith) in
+      let o = set-next (l .rows) (l .count) (line d) (omega arith) in
       ap (λ (z : Lines). take (pushed ds z .count) (pushed ds z .rows)) p
       ∙ (q ∙ (ap (λ (z : List Line). z ++ map line ds) o ∙ append-assoc (take (l .count) (l .rows)) (line d ∷ []) (map line ds)))
 

@@ -1,4 +1,4 @@
--- What the functions answer, for every input. Code-shaped; the crate converter (proofs/Lines.antt) ties it to the definitions. Nothing here
+-- What the functions answer, for every input. Code-shaped; proofs/Lines.antt ties it to the definitions. Nothing here
 -- has to be believed.
 use Prim.Native.Nat.{ℕ, _+_}
 use mathlib.Core.List.{List, [], _∷_}

@@ -138,7 +138,8 @@ module _ (i : ℕ) (ks : List Known) (r : FoundSoFar) (s : Agrees ks r noneFound
       let x : r .index ≡ indexOf ks = s .index ∙ clean-index ks g (h g) in
       let z : r .index .fault .number ≡ 0 = ap (λ (y : Index). y .fault .number) x ∙ index-number ks in
       let t : r .lacking ≡ any lacks ks = s .lacking z in
-      by-cases (any lacks ks) (λ b. rw (e, eq-eqb (r .index .fault .number) 0 z, t, b) refl) (λ b. rw (e, eq-eqb (r .index .fault .number) 0 z, t, b) x)
+      by-cases (any lacks ks) (λ b. rw (e, eq-eqb (r .index .fault .number) 0 z, t, b) refl)
+      (λ b. rw (e, eq-eqb (r .index .fault .number) 0 z, t, b) x)
 
 -- ---- a well-shaped file
 over-first : (k : Kind) → isOver File k noneSeen ≡ false

@@ -1,7 +1,7 @@
--- Judged: one attribute. Texts: an element's text. Verdicts: the tests of `faults::verdict_of`. Turns: the loops over a start tag, for every file.
--- `Laws` says what the answers are on a file of good shape: `fault-law`, `over-law`, `barred-law`, `value-law`, `channel-law`. Its parts: Gathers: the fold
--- over the attributes. Required: which lack. Forms: by the form of a kind. Tags: the loops over a start tag. Wordings: stray text. Flags and Arms serve
--- the proofs of `faults` and above.
+-- Judged: one attribute. Texts: an element's text. Verdicts: the tests of `faults::verdict_of`. Turns: the loops over a start tag, for
+-- every file. `Laws` says what the answers are on a file of good shape: `fault-law`, `over-law`, `barred-law`, `value-law`,
+-- `channel-law`. Its parts: Gathers: the fold over the attributes. Required: which lack. Forms: by the form of a kind. Tags: the loops
+-- over a start tag. Wordings: stray text. Arms serves the proofs of `faults` and above.
 pub mod Judged
 pub mod Texts
 pub mod Verdicts

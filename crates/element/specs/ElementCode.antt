@@ -1,5 +1,4 @@
--- What the functions answer, for every input. Code-shaped; the crate element_laws ties it to the definitions. Nothing here has to be
--- believed.
+-- What the functions answer, for every input. Code-shaped; proofs/Laws.antt ties it to the definitions. Nothing here has to be believed.
 use Prim.Native.Nat.{ℕ, zero, suc, _+_}
 use Prim.Native.String.{String}
 use mathlib.Core.List.{List, [], _∷_}

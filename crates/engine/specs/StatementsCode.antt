@@ -1,6 +1,5 @@
--- The statements as the loops go: by index into arrays. All are evaluated, then those that rose act. Nobody has to believe it: proofs/Ties
--- shows
--- it equal to the rules.
+-- The statements as the loops go: by index into arrays. All are evaluated, then those that rose act. Nobody has to believe it:
+-- proofs/StatementsTies.antt shows it equal to the rules.
 use Prim.Native.Nat.{ℕ, _+_, _*_}
 use mathlib.Core.List.{List, [], _∷_}
 use mathlib.Core.Bool.{Bool, false, not, _&&_, cond}

@@ -1,4 +1,4 @@
--- The triggers as the loops go: by index into arrays. Nobody has to believe it: proofs/Ties shows it equal to the rules.
+-- The triggers as the loops go: by index into arrays. Nobody has to believe it: proofs/TriggersTies.antt shows it equal to the rules.
 use Prim.Native.Nat.{ℕ, _+_}
 use mathlib.Core.List.{List, [], _∷_, zipWith}
 use mathlib.Core.Bool.{Bool, false, _||_, cond}

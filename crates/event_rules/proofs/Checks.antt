@@ -92,7 +92,8 @@ lasting = record {
   logAll = false;
   triggers = record { cause = ids 1 1; timeout = Ms 100 } ∷ record { cause = ids 2 2; timeout = Ms 0 } ∷ [];
   filters = [];
-  statements = record { post = 0; actions = StartLog ∷ []; code = 0 ∷ [] } ∷ record { post = 0; actions = StopLog ∷ []; code = 1 ∷ [] } ∷ [];
+  statements = record { post = 0; actions = StartLog ∷ []; code = 0 ∷ [] } ∷ record { post = 0; actions = StopLog ∷ []; code = 1 ∷ [] }
+      ∷ [];
 }
 
 pub rise-check : answersTo (configOf lasting) fresh noCounts (at 0 1 ∷ at 1000 2 ∷ at 2000 9 ∷ at 3000 9 ∷ [])

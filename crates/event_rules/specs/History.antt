@@ -1,6 +1,6 @@
--- Paper 01, "One event" (the counts) and "What the contracts settle" (the counts of the history): the answers to a list of events, what is
--- behind them, and how many there are of each.
--- "Four counts (Recorded, Idle, Stopped, Halted) are the numbers of such answers in the history; their sum is the frames accepted."
+-- Paper 01, "One event" (the counts) and "What the contracts settle" (the counts of the history): the answers to a list of events, what
+-- is behind them, and how many there are of each. "Four counts (Recorded, Idle, Stopped, Halted) are the numbers of such answers in the
+-- history; their sum is the frames accepted."
 use Prim.Native.Nat.{ℕ, _+_}
 use mathlib.Core.List.{List, [], _∷_}
 use mathlib.Core.Bool.{Bool, true, false, cond}

@@ -6,7 +6,7 @@ ghost use Prim.Native.Nat.{_<_};
 ghost use lib.ListN.{length, take, drop};
 ghost use Rattle.text.specs.Texts.{same};
 ghost use Rattle.grammar.specs.Lex.{word, namesIn, find, numberOf};
-ghost use Rattle.grammar.specs.TokensCode.{Stands, lexed, unfitTokens};
+ghost use Rattle.grammar.specs.TokensCode.{LexemeAt, lexed, unfitTokens};
 use grammar::Lexed;
 use grammar::Lexeme;
 use grammar::MOST;
@@ -70,7 +70,7 @@ fn word_number(w: &[u8], file: &[u8], starts: &[usize], ends: &[usize]) -> u32
 
 fn next_token(text: &[u8], at: usize, file: &[u8], starts: &[usize], ends: &[usize]) -> Lexeme
     requires { ⌜ at < length (now text) ⌝ }
-    ensures { λ r. ⌜ Stands (namesIn (now (file .entry)) (now (starts .entry)) (now (ends .entry))) (now (text .entry)) at r ⌝ }
+    ensures { λ r. ⌜ LexemeAt (namesIn (now (file .entry)) (now (starts .entry)) (now (ends .entry))) (now (text .entry)) at r ⌝ }
 {
     let b = text[at];
     if letters::is_name(b) {

@@ -1,12 +1,11 @@
 -- Laws of what a reader of the code answers (`Agrees`), one for each way that it returns; the laws of chains hold at both levels.
 use Prim.Native.Nat.{ℕ, zero, suc, _+_, _-_, _≤_, _<_}
 use native.Mathlib.Omega.{arith}
-use native.Mathlib.Numerals.{add-one}
 use mathlib.Core.Path.{_≡_, refl, sym, ap, subst, _∙_}
 use mathlib.Core.Bool.{true, false}
 use mathlib.Core.List.{List, [], _∷_, _++_, map, map-append, append-assoc, append-nil}
 use lib.ListN.{length, take, drop, set, getD, drop-of-length-le}
-use lib.Seq.{drop-drop, drop-set-lt, take-suc-set}
+use lib.Seq.{drop-drop}
 use lib.Dec.{eqb}
 use borrow.Author.Tests.{eqb-true, ne-eqb}
 use Rattle.lists.proofs.Cases.{by-cases}
@@ -19,6 +18,7 @@ use Rattle.grammar.specs.declared.Got.{Got}
 use Rattle.grammar.specs.declared.Got.the-variants.{At, Fault}
 use Rattle.grammar.proofs.Sound.{mark-is}
 use Rattle.grammar.proofs.Fuel.{parse-chain, parse-more, parse-or, parse-and}
+use Rattle.lists.proofs.Fills.{set-next, set-behind}
 
 -- the number that a token is of
 abbrev pub back : Tok → ℕ
@@ -111,9 +111,9 @@ module _ {ts : List ℕ} {at n : ℕ} {o o₁ : List ℕ} {c : List Op} {i m : �
     up = omega (arith, w .up);
     spare = omega (arith, w .spare);
     before =
-        rw (add-one, take-suc-set o₁ m (wordOf x) h, w .before, map-append wordOf c (x ∷ []))
+        rw (set-next o₁ m (wordOf x) h, w .before, map-append wordOf c (x ∷ []))
         (append-assoc (take n o) (map wordOf c) (wordOf x ∷ []));
-    behind = drop-set-lt (m + 1) o₁ m (wordOf x) (omega arith) ∙ sym (drop-drop 1 m o₁) ∙ ap (drop 1) (w .behind) ∙ drop-drop 1 m o;
+    behind = set-behind o₁ o m (wordOf x) (w .behind);
   }
 
   written-open : WroteCode ts (at + 1) n o o₁ c i m → WroteCode ts at n o o₁ c i m

@@ -1,6 +1,6 @@
--- The theorems: Machine (what code leaves on a stack, and how much of it), Complete (at most one tree), Ruled (what `compile` answers is what the rules
--- give), Spelled (what `tokenise` answers is what Lex.antt says), Checks (the checks by hand). Sound and Fuel serve their proofs; Laws, Whole, Names and
--- Tokens those of the functions of `expression`.
+-- The theorems: Machine (what code leaves on a stack, and how much of it), Complete (at most one tree), Ruled (what `compile` answers is
+-- what the rules give), Spelled (what `tokenise` answers is what Lex.antt says), Checks (the checks by hand). Sound and Fuel serve their
+-- proofs; Laws, Whole, Names and Tokens those of the functions of `expression`.
 pub mod Machine
 mod Sound
 mod Fuel

@@ -13,7 +13,7 @@ use Rattle.text.specs.Kinds.{isBlank, isName, spanAt}
 use Rattle.lists.proofs.Cases.{by-cases}
 use Rattle.text.proofs.Spans.{drop-one, span-more, high-of}
 use Rattle.grammar.specs.Lex.{Token, word, left, right, inWord, numberOf}
-use Rattle.grammar.specs.TokensCode.{putToken, grow, lex, mapped, numbers, Stands, next, skip, wrong, laidTokens, unfitTokens}
+use Rattle.grammar.specs.TokensCode.{putToken, grow, lex, mapped, numbers, LexemeAt, next, skip, wrong, laidTokens, unfitTokens}
 use Rattle.grammar.specs.declared.Lexeme.the-variants.{Next, Skip, Wrong}
 
 pub grow-put : (b : ℕ) (w : List ℕ) (r : Option (List Token)) → grow b (putToken (word w) r) ≡ putToken (word (b ∷ w)) r
@@ -70,7 +70,7 @@ mapped-put names x (some l) = refl
 -- what stands at a place, by the byte there
 module _ (names : List (List ℕ)) (s : List ℕ) (at : ℕ) (h : at < length s) where
   pub at-word : (i t : ℕ) → isName (getD s at 0) ≡ true → i ≡ spanAt isName (drop at s) at
-      → t ≡ numberOf names (word (take (i - at) (drop at s))) → Stands names s at (Next t i)
+      → t ≡ numberOf names (word (take (i - at) (drop at s))) → LexemeAt names s at (Next t i)
   unfolding numbers
   at-word i t e p q =
       let b = getD s at 0 in
@@ -84,29 +84,29 @@ module _ (names : List (List ℕ)) (s : List ℕ) (at : ℕ) (h : at < length s)
       ∙ mapped-put names (word (b ∷ take (run s₁) s₁)) (lex (drop (run s₁) s₁)) ∙ rw (named, rest)))
 
   module _ (n : isName (getD s at 0) ≡ false) where
-    pub at-blank : isBlank (getD s at 0) ≡ true → Stands names s at Skip
+    pub at-blank : isBlank (getD s at 0) ≡ true → LexemeAt names s at Skip
     unfolding numbers lex
     at-blank e = skip (rw (drop-one s at h, n, e))
 
     module _ (b : isBlank (getD s at 0) ≡ false) where
-      pub at-left : getD s at 0 ≡ 40 → Stands names s at (Next 35 (at + 1))
+      pub at-left : getD s at 0 ≡ 40 → LexemeAt names s at (Next 35 (at + 1))
       unfolding numbers lex numberOf
       at-left e =
           next 35 (at + 1) (omega arith) (omega arith)
           (rw (drop-one s at h, n, b, eq-eqb (getD s at 0) 40 e) (mapped-put names left (lex (drop (at + 1) s))))
 
-      pub at-right : getD s at 0 ≡ 41 → Stands names s at (Next 36 (at + 1))
+      pub at-right : getD s at 0 ≡ 41 → LexemeAt names s at (Next 36 (at + 1))
       unfolding numbers lex numberOf
       at-right e =
           next 36 (at + 1) (omega arith) (omega arith)
           (rw (drop-one s at h, n, b, ne-eqb (getD s at 0) 40 (omega arith), eq-eqb (getD s at 0) 41 e)
           (mapped-put names right (lex (drop (at + 1) s))))
 
-      pub at-other : (getD s at 0 ≡ 40 → ⊥) → (getD s at 0 ≡ 41 → ⊥) → Stands names s at Wrong
+      pub at-other : (getD s at 0 ≡ 40 → ⊥) → (getD s at 0 ≡ 41 → ⊥) → LexemeAt names s at Wrong
       unfolding numbers lex
       at-other e f = wrong (rw (drop-one s at h, n, b, ne-eqb (getD s at 0) 40 e, ne-eqb (getD s at 0) 41 f))
 
-pub onwards : {names : List (List ℕ)} {s : List ℕ} {at t i : ℕ} → Stands names s at (Next t i) → (at < i) × (i ≤ length s)
+pub onwards : {names : List (List ℕ)} {s : List ℕ} {at t i : ℕ} → LexemeAt names s at (Next t i) → (at < i) × (i ≤ length s)
 onwards (next t i a b e) = (a, b)
 
 -- A turn of the loop: the text's numbers are the n that stand in the array, and then those from the place on; behind them the array has
@@ -126,7 +126,7 @@ first-turn names s = record { within = omega arith; room = omega arith; long = r
     go (some l) = refl
 
 module _ {names : List (List ℕ)} {s : List ℕ} {at n : ℕ} {o : List ℕ} (turn : Turn names s at n o) where
-  pub token-turn : {t i : ℕ} → n < 64 → Stands names s at (Next t i) → Turn names s i (n + 1) (set o n t)
+  pub token-turn : {t i : ℕ} → n < 64 → LexemeAt names s at (Next t i) → Turn names s i (n + 1) (set o n t)
   token-turn g (next t i a b e) = record {
     within = b;
     room = omega arith;
@@ -145,14 +145,14 @@ module _ {names : List (List ℕ)} {s : List ℕ} {at n : ℕ} {o : List ℕ} (t
       go none = refl
       go (some l) = ap some (rw (add-one, take-suc-set o n t (omega (arith, turn .long))) (sym (append-assoc (take n o) (t ∷ []) l)))
 
-  pub blank-turn : at < length s → Stands names s at Skip → Turn names s (at + 1) n o
+  pub blank-turn : at < length s → LexemeAt names s at Skip → Turn names s (at + 1) n o
   blank-turn h (skip e) =
       record { within = omega arith; room = turn .room; long = turn .long; zeros = turn .zeros; rest = turn .rest ∙ rw e }
 
-  pub wrong-there : Stands names s at Wrong → laidTokens (numbers names s) ≡ unfitTokens
+  pub wrong-there : LexemeAt names s at Wrong → laidTokens (numbers names s) ≡ unfitTokens
   wrong-there (wrong e) = rw (turn .rest, e)
 
-  pub full : {t i : ℕ} → n ≡ 64 → Stands names s at (Next t i) → laidTokens (numbers names s) ≡ unfitTokens
+  pub full : {t i : ℕ} → n ≡ 64 → LexemeAt names s at (Next t i) → laidTokens (numbers names s) ≡ unfitTokens
   full g (next t i a b e) = rw (turn .rest, e) (go (numbers names (drop i s)))
     where
       go : (y : Option (List ℕ)) → laidTokens (mapped (λ r. take n o ++ r) (putToken t y)) ≡ unfitTokens

@@ -95,7 +95,8 @@ module _ (names : List (List ℕ)) (text : List ℕ) where
   fit-text p f = subst Fit (sym p) (go (numbers names text) (sym (ap (λ (l : Lexed). l .fine) p) ∙ f))
     where
       go : (x : Option (List ℕ)) → laidTokens x .fine ≡ true
-          → (laidTokens x .count ≤ 64) × (length (laidTokens x .tokens) ≡ 64) × (ifAny x ≡ compiledFrom (take (laidTokens x .count) (laidTokens x .tokens)))
+          → (laidTokens x .count ≤ 64) × (length (laidTokens x .tokens) ≡ 64)
+          × (ifAny x ≡ compiledFrom (take (laidTokens x .count) (laidTokens x .tokens)))
       go none f = absurd (false≢true f)
       go (some ts) f =
           by-cases (leb (length ts) 64)

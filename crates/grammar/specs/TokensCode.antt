@@ -53,7 +53,12 @@ unfoldable pub lexed : List (List ℕ) → List ℕ → Lexed
 lexed names s = laidTokens (numbers names s)
 
 -- what stands at the place `at` of the text s
-pub data Stands (names : List (List ℕ)) (s : List ℕ) (at : ℕ) : Lexeme → Type 0 where
-  next : (t i : ℕ) → at < i → i ≤ length s → numbers names (drop at s) ≡ putToken t (numbers names (drop i s)) → Stands names s at (Next t i)
-  skip : numbers names (drop at s) ≡ numbers names (drop (at + 1) s) → Stands names s at Skip
-  wrong : numbers names (drop at s) ≡ none → Stands names s at Wrong
+pub data LexemeAt (names : List (List ℕ)) (s : List ℕ) (at : ℕ) : Lexeme → Type 0 where
+  next :
+      (t i : ℕ)
+      → at < i
+      → i ≤ length s
+      → numbers names (drop at s) ≡ putToken t (numbers names (drop i s))
+      → LexemeAt names s at (Next t i)
+  skip : numbers names (drop at s) ≡ numbers names (drop (at + 1) s) → LexemeAt names s at Skip
+  wrong : numbers names (drop at s) ≡ none → LexemeAt names s at Wrong

@@ -1,17 +1,14 @@
--- The walk that `frame_into` and `tick_into` share. Each is lent the host's counts, calls the engine's function of the same event on a copy
--- of them, stores a record behind the reference and returns the outcome.
--- The two differ in the event's type and in the callee, so the signatures, the code and the walk are stated over a type X of events and the
--- callee's name. A proof of one of the two shows that its own code is this code, and that its contract follows from what the callee says.
---     ByValue             what the walk asks of a type of events: its machine values and their laws, and which event of the rules a value
--- is
---     into, take          the signatures: of a function that is lent the counts, and of the engine's, which takes them by value
---     function name n     the code: `name` is called, and the record in local n is stored
---     kept n h r          that record: the one that was read, h, or the outcome's. So it is left to the contract to say which of the two is
--- to be stored
---     Take                the engine's contract.        Answered      what it says of the answer
---     meets               the code meets each contract whose `ensures` follows from `Answered`, with `kept` for the record at exit
--- The borrow stays open over the call: the callee asks for the token of the words' lifetime alone.
--- `meets` takes `Given`. The rest assumes nothing.
+-- The walk that `frame_into` and `tick_into` share. Each is lent the host's counts, calls the engine's function of the same event on a
+-- copy of them, stores a record behind the reference and returns the outcome. The two differ in the event's type and in the callee, so
+-- the signatures, the code and the walk are stated over a type X of events and the callee's name. A proof of one of the two shows that
+-- its own code is this code, and that its contract follows from what the callee says.     ByValue             what the walk asks of a
+-- type of events: its machine values and their laws, and which event of the rules a value is     into, take          the signatures: of a
+-- function that is lent the counts, and of the engine's, which takes them by value     function name n     the code: `name` is called,
+-- and the record in local n is stored     kept n h r          that record: the one that was read, h, or the outcome's. So it is left to
+-- the contract to say which of the two is to be stored     Take                the engine's contract.        Answered      what it says
+-- of the answer     meets               the code meets each contract whose `ensures` follows from `Answered`, with `kept` for the record
+-- at exit The borrow stays open over the call: the callee asks for the token of the words' lifetime alone. `meets` takes `Given`. The
+-- rest assumes nothing.
 use mathlib.Core.Path.{_≡_, refl, ap, subst}
 use Prim.Native.Nat.{ℕ}
 use mathlib.Core.Bool.{_||_, cond}

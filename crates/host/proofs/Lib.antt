@@ -1,2 +1,3 @@
--- What the proofs of this crate share: one walk for the two functions, which differ in the event's type and in the function that they call.
+-- What the proofs of this crate share: one walk for the two functions, which differ in the event's type and in the function that they
+-- call.
 pub mod Into

@@ -1,14 +1,76 @@
--- A list that a loop fills from the front: in what is passed it is `t`, in what is left still `o`; and lists that go side by side.
-use Prim.Native.Nat.{ℕ, zero, suc, _+_, _-_, _≤_, _<_, min}
+-- A list that a loop fills from the front, and lists that go side by side.
+use Prim.Native.Nat.{ℕ, zero, suc, _+_, _≤_, _<_, min}
 use mathlib.Core.Path.{_≡_, refl, sym, ap, _∙_}
-use mathlib.Core.List.{List, [], _∷_, _++_, zipWith, append-nil}
+use mathlib.Core.List.{List, [], _∷_, _++_, zipWith, append-nil, append-assoc}
 use native.Mathlib.Omega.{arith}
 use native.Mathlib.Numerals.{add-one}
 use native.Mathlib.Nat.{zero-min, suc-min-suc}
-use lib.ListN.{length, getD, set, take, drop, drop-of-length-le}
-use lib.Seq.{take-suc, take-all, take-nil, drop-cons, append-snoc, length-take-le, set-at, getD-at}
+use lib.ListN.{length, getD, set, take, drop, drop-of-length-le, length-append, length-drop, length-set, take-append-drop}
+use lib.Seq.{take-suc, take-all, take-nil, take-at, take-suc-set, drop-cons, drop-drop, drop-at, drop-set-lt, append-snoc, length-take-le, set-at, getD-at}
 
 module _ {A : Type 0} where
+  -- one element set: what stands before it, and behind it
+  pub set-next : (e : List A) (n : ℕ) (x : A) → n < length e → take (n + 1) (set e n x) ≡ take n e ++ (x ∷ [])
+  set-next e n x h = ap (λ (k : ℕ). take k (set e n x)) (add-one n) ∙ take-suc-set e n x h
+
+  pub set-behind : (e d : List A) (n : ℕ) (x : A) → drop n e ≡ drop n d → drop (n + 1) (set e n x) ≡ drop (n + 1) d
+  set-behind e d n x r = drop-set-lt (n + 1) e n x (omega arith) ∙ sym (drop-drop 1 n e) ∙ ap (drop 1) r ∙ drop-drop 1 n d
+
+  -- d became e: the first n are new, and are `done`; the others are as they were
+  pub record Filled (done d e : List A) (n : ℕ) : Type 0 where
+    pub words : take n e ≡ done
+    pub rest : drop n e ≡ drop n d
+    pub long : length e ≡ length d
+    pub within : n ≤ length d
+
+  pub filled-none : (d : List A) → Filled [] d d 0
+  filled-none d = record { words = refl; rest = refl; long = refl; within = omega arith }
+
+  pub filled-all : {done d e : List A} {n : ℕ} → Filled done d e n → e ≡ done ++ drop n d
+  filled-all {done} {d} {e} {n} f = sym (take-append-drop n e) ∙ rw (f .words, f .rest)
+
+  pub filled-take : {done d e : List A} {n : ℕ} → Filled done d e n → Filled (take n e) d e n
+  filled-take f = record { words = refl; rest = f .rest; long = f .long; within = f .within }
+
+  pub filled-room : {done d e : List A} {n : ℕ} (m : ℕ) → Filled done d e n → m ≤ length d → m ≤ length e
+  filled-room m f h = omega (arith, f .long)
+
+  -- one more
+  pub filled-one : (done d e : List A) (n m : ℕ) (x : A) → Filled done d e n → n < length d → n + 1 ≡ m
+      → Filled (done ++ (x ∷ [])) d (set e n x) m
+  filled-one done d e n m x f h q = rw (← q) (record {
+    words = set-next e n x (omega (arith, f .long)) ∙ ap (λ (l : List A). l ++ (x ∷ [])) (f .words);
+    rest = set-behind e d n x (f .rest);
+    long = length-set e n x ∙ f .long;
+    within = omega arith;
+  })
+
+  -- n more
+  module _ (done d e : List A) (at : ℕ) (f : Filled done d e at) (w p : List A) (n : ℕ) (l : length w ≡ n) (h : at + n ≤ length d)
+      (g : p ≡ take at e ++ (w ++ drop (at + n) e)) where
+    more-is : p ≡ (done ++ w) ++ drop (at + n) d
+    more-is =
+        let z : drop (at + n) e ≡ drop (at + n) d = sym (drop-drop n at e) ∙ ap (drop n) (f .rest) ∙ drop-drop n at d in
+        g ∙ rw (f .words, z, ← append-assoc done w (drop (at + n) d))
+
+    more-long : length (done ++ w) ≡ at + n
+    more-long = omega (arith, length-append done w, l, ap length (f .words), length-take-le at e (omega (arith, f .long, f .within)))
+
+    pub filled-more : Filled (done ++ w) d p (at + n)
+    filled-more = record {
+      words = ap (take (at + n)) more-is ∙ take-at (done ++ w) (drop (at + n) d) (at + n) more-long;
+      rest = ap (drop (at + n)) more-is ∙ drop-at (done ++ w) (drop (at + n) d) (at + n) more-long;
+      long = ap length more-is ∙ omega (arith, length-append (done ++ w) (drop (at + n) d), more-long, length-drop (at + n) d);
+      within = h;
+    }
+
+  -- the first i of t are copied to the front of d
+  pub filled-copy : (t d e : List A) (i : ℕ) (z : A) → Filled (take i t) d e i → i < length t → i < length d
+      → Filled (take (i + 1) t) d (set e i (getD t i z)) (i + 1)
+  filled-copy t d e i z f h k =
+      rw (add-one i, take-suc t i z h) (filled-one (take i t) d e i (suc i) (getD t i z) f k (add-one i))
+
+  -- in what is passed it is `t`, in what is left still `o`
   abbrev pub filled : List A → List A → ℕ → List A
   filled t o i = take i t ++ drop i o
 

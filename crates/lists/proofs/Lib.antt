@@ -1,4 +1,5 @@
--- Cases: a test and what it tells. Parts: flags, fuel, parts that are lent. Fills: a list that a loop fills from the front.
+-- Cases: a test and what it tells. Parts: two flags, fuel, parts that are lent. Flags: flags in a row. Fills: a list that a loop fills from
+-- the front.
 pub mod Cases
 pub mod Parts
 pub mod Fills

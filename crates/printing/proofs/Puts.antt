@@ -1,11 +1,9 @@
 -- Texts behind texts, also where they are cut off.
-use Prim.Native.String.{String}
 use Prim.Native.Nat.{ℕ, zero, suc, _+_, _-_, _/_, _%_, _≤_, _<_, min}
 use mathlib.Core.Logic.{_≢_}
 use mathlib.Core.Path.{_≡_, refl, sym, ap, _∙_}
 use mathlib.Core.List.{List, [], _∷_, _++_, append-assoc, append-nil}
 use native.Mathlib.Omega.{arith}
-use native.Mathlib.Nat.{zero-min, suc-min-suc}
 use native.Mathlib.Numerals.{add-one}
 use lib.ListN.{length, getD, set, take, drop, length-take, length-drop, length-append, length-set, drop-of-length-le}
 use lib.Seq.{take-all, take-nil, take-suc, take-append-le, drop-cons, set-at, append-snoc}

@@ -38,10 +38,9 @@ use Rattle.logger_c.specs.Calls.{Loading}
 use Rattle.promises.specs.Own.{Says}
 use Rattle.lists.specs.Lists.{all}
 
--- ---- 1. "Converter, loader and engine answer every input and end. A bad file, plan or event gets the paper's refusal number at the place
--- it names;
--- then no plan word is written, and logging state and counts stand as before."
--- That they answer and end is part of what is proved of every function. Here: which answer, that there is no other, and what stays.
+-- ---- 1. "Converter, loader and engine answer every input and end. A bad file, plan or event gets the paper's refusal number at the
+-- place it names; then no plan word is written, and logging state and counts stand as before." That they answer and end is part of what
+-- is proved of every function. Here: which answer, that there is no other, and what stays.
 
 -- a file's refusal: by its shape 1 or 2; else the first of its faults in the paper's order
 pub data Refuses (s d : List ℕ) (n p : ℕ) : Type 0 where
@@ -143,9 +142,8 @@ pub record Demand2 : Type 0 where
       → numberSpelt t ≡ Value v
       → AllDigits 10 t ⊎ ((h : List ℕ) × (t ≡ bytes "0x" ++ h) × AllDigits 16 h)
 
--- ---- 3. "For any accepted file and any list of events fed to a fresh engine, event by event the plan gives the same answer, logging state
--- and counts
--- as the rules applied to the file itself, its expressions read as written with their brackets."
+-- ---- 3. "For any accepted file and any list of events fed to a fresh engine, event by event the plan gives the same answer, logging
+-- state and counts as the rules applied to the file itself, its expressions read as written with their brackets."
 pub record SameRun (ws : List ℕ) (c : Config) : Type 0 where
   pub event : (en : Engine) (k : Counts) (e : Event) (o : Outcome) → Answers ws en k e o → o ≡ step c en k e
   pub events : (p : PlanOf ws) (es : List Event)

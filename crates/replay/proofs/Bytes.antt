@@ -1,15 +1,14 @@
 -- Bytes of a replay: numbers from bytes, bytes written one behind the other.
 use Prim.Native.Nat.{ℕ, zero, suc, _+_, _-_, _*_, _/_, _%_, _≤_, _<_}
-use mathlib.Core.Path.{_≡_, refl, sym, ap, _∙_}
+use mathlib.Core.Path.{_≡_, refl, ap, _∙_}
 use mathlib.Core.List.{List, [], _∷_, _++_, append-assoc, append-nil}
 use native.Mathlib.Omega.{arith}
-use native.Mathlib.Numerals.{add-one}
 use native.Mathlib.Nat.{sub-zero, add-zero}
-use lib.ListN.{length, getD, take, drop, set, length-append, length-drop, length-set, take-append-drop}
-use lib.Seq.{drop-drop, take-at, drop-at, take-suc-set, drop-set-lt, length-take-le}
+use lib.ListN.{length, getD, take, drop, set}
 use Rattle.event_rules.specs.declared.Outcome.{Outcome}
 use Rattle.replay.specs.Wire.{fromBytes, bytesOf, bytesAt, answerBytes}
 use Rattle.lists.proofs.Parts.{fuel, spent}
+use Rattle.lists.proofs.Fills.{Filled, filled-none, filled-all, filled-take, filled-one, filled-more}
 
 -- ---- numbers from bytes
 pub four : (s : List ℕ) (at : ℕ)
@@ -23,55 +22,6 @@ four s at =
 pub eight : (s : List ℕ) → fromBytes (bytesAt 8 4 s) + 4294967296 * fromBytes (bytesAt 12 4 s) ≡ fromBytes (bytesAt 8 8 s)
 unfolding fromBytes bytesAt
 eight s = omega arith
-
--- ---- bytes written at the front of a lent buffer
--- d became e: the first `at` bytes are new, the others as they were
-pub record Filled (ws d e : List ℕ) (at : ℕ) : Type 0 where
-  pub words : take at e ≡ ws
-  pub rest : drop at e ≡ drop at d
-  pub long : length e ≡ length d
-  pub within : at ≤ length d
-
-pub filled-none : (d : List ℕ) → Filled [] d d 0
-filled-none d = record { words = refl; rest = refl; long = refl; within = omega arith }
-
-pub filled-all : {ws d e : List ℕ} {at : ℕ} → Filled ws d e at → e ≡ ws ++ drop at d
-filled-all {ws} {d} {e} {at} f = sym (take-append-drop at e) ∙ rw (f .words, f .rest)
-
-pub filled-take : {ws d e : List ℕ} {at : ℕ} → Filled ws d e at → Filled (take at e) d e at
-filled-take f = record { words = refl; rest = f .rest; long = f .long; within = f .within }
-
-pub filled-room : {ws d e : List ℕ} {at : ℕ} (n : ℕ) → Filled ws d e at → n ≤ length d → n ≤ length e
-filled-room n f h = omega (arith, f .long)
-
--- one byte more
-pub filled-one : (ws d e : List ℕ) (i j b : ℕ) → Filled ws d e i → i < length d → i + 1 ≡ j → Filled (ws ++ (b ∷ [])) d (set e i b) j
-filled-one ws d e i j b f h n = rw (← n) (record {
-  words = ap (λ (j : ℕ). take j (set e i b)) (add-one i) ∙ take-suc-set e i b (omega (arith, f .long))
-      ∙ ap (λ (l : List ℕ). l ++ (b ∷ [])) (f .words);
-  rest = drop-set-lt (i + 1) e i b (omega arith) ∙ sym (drop-drop 1 i e) ∙ ap (drop 1) (f .rest) ∙ drop-drop 1 i d;
-  long = length-set e i b ∙ f .long;
-  within = omega arith;
-})
-
--- n bytes more
-module _ (ws d e : List ℕ) (at : ℕ) (f : Filled ws d e at) (w p : List ℕ) (n : ℕ) (l : length w ≡ n) (h : at + n ≤ length d)
-    (g : p ≡ take at e ++ (w ++ drop (at + n) e)) where
-  more-is : p ≡ (ws ++ w) ++ drop (at + n) d
-  more-is =
-      let z : drop (at + n) e ≡ drop (at + n) d = sym (drop-drop n at e) ∙ ap (drop n) (f .rest) ∙ drop-drop n at d in
-      g ∙ rw (f .words, z, ← append-assoc ws w (drop (at + n) d))
-
-  more-long : length (ws ++ w) ≡ at + n
-  more-long = omega (arith, length-append ws w, l, ap length (f .words), length-take-le at e (omega (arith, f .long, f .within)))
-
-  pub filled-more : Filled (ws ++ w) d p (at + n)
-  filled-more = record {
-    words = ap (take (at + n)) more-is ∙ take-at (ws ++ w) (drop (at + n) d) (at + n) more-long;
-    rest = ap (drop (at + n)) more-is ∙ drop-at (ws ++ w) (drop (at + n) d) (at + n) more-long;
-    long = ap length more-is ∙ omega (arith, length-append (ws ++ w) (drop (at + n) d), more-long, length-drop (at + n) d);
-    within = h;
-  }
 
 -- ---- a number's bytes
 pub length-bytes : (n x : ℕ) → length (bytesOf n x) ≡ n

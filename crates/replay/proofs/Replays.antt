@@ -21,7 +21,8 @@ use Rattle.event_rules.specs.declared.Outcome.{Outcome}
 use Rattle.event_rules.specs.Rules.{Event, frame, tick}
 use Rattle.event_rules.specs.Calls.{fresh, configOf, refused, step}
 use Rattle.replay.specs.Wire.{frameAt, eventAt, answerBytes, withAnswer}
-use Rattle.replay.proofs.Bytes.{Filled, filled-none, filled-all, filled-take, filled-more, length-answer}
+use Rattle.replay.proofs.Bytes.{length-answer}
+use Rattle.lists.proofs.Fills.{Filled, filled-none, filled-all, filled-take, filled-more}
 use Rattle.engine.specs.EventCode.{planBy}
 use Rattle.replay.specs.ReplayCode.{stepLoaded}
 use Rattle.replay.specs.Replay.{replayed, eventsAnswered, Replays, by-plan, no-plan}

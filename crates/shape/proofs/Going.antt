@@ -1,4 +1,4 @@
--- The machine of Machine.antt without offsets: where a text leads from a state.
+-- The machine of MachineCode.antt without offsets: where a text leads from a state.
 use Prim.Native.Nat.{ℕ}
 use mathlib.Core.Path.{_≡_, refl}
 use mathlib.Core.List.{List, [], _∷_}

@@ -1,6 +1,5 @@
 -- At most one doc is spelled by a text: each rule of the grammar reads a text in one way, so that what is read and what stands behind it
--- are settled.
--- Each law takes two readings of equal texts, and gives equations of what was read and of the rests.
+-- are settled. Each law takes two readings of equal texts, and gives equations of what was read and of the rests.
 use Prim.Native.Nat.{ℕ, zero, suc, _-_}
 use mathlib.Core.Path.{_≡_, refl, sym, ap, _∙_, subst}
 use mathlib.Core.List.{List, [], _∷_, _++_}

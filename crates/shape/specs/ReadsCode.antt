@@ -1,6 +1,6 @@
--- What the contracts of the functions that `read_shape` calls say, in terms of Machine.antt: the text read from state q at offset i goes on
--- as from state q′ where the reader came to.
--- Proof devices, which need not be believed.
+-- What the contracts of the functions that `read_shape` calls say, in terms of MachineCode.antt: the text read from state q at offset i
+-- goes
+-- on as from state q′ where the reader came to. Proof devices, which need not be believed.
 use Prim.Native.Nat.{ℕ, _+_, _≤_, _<_}
 use mathlib.Core.Path.{_≡_}
 use mathlib.Core.List.{List, [], _∷_}

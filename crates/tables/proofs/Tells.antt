@@ -1,5 +1,5 @@
 -- What is told of the known elements of a document: its triggers, their names, and the head.
-use Prim.Native.Nat.{ℕ, suc, _+_, _≤_, _<_}
+use Prim.Native.Nat.{ℕ, _+_, _≤_, _<_}
 use Prim.Native.String.{String}
 use native.Mathlib.Omega.{arith}
 use mathlib.Core.Path.{_≡_, refl, sym, ap, _∙_}
@@ -7,7 +7,7 @@ use mathlib.Core.List.{List, [], _∷_, _++_, map, map-append, append-assoc, app
 use mathlib.Core.Bool.{Bool, true, false, not, cond, _&&_, _||_, or-true, or-false, true≢false}
 use lib.Dec.{leb, ltb, eqb}
 use lib.ListN.{length, take, set, getD, replicate, length-map, length-append, length-set, length-replicate, getD-replicate, List·getD-eq-default}
-use lib.Seq.{slice, take-suc-set, take-all, getD-set-same, getD-set-other}
+use lib.Seq.{slice, take-all, getD-set-same, getD-set-other}
 use borrow.Author.Tests.{lt-ltb, leb-true, eqb-true, eqb-false, not-false}
 use Rattle.text.specs.Texts.{bytes, same}
 use Rattle.lists.proofs.Cases.{by-cases, le-or-lt}
@@ -44,25 +44,24 @@ use Rattle.tables.specs.TablesCode.{namesAt}
 use Rattle.tables.proofs.Wanted.{Fit}
 use Rattle.tables.proofs.Nested.{kept-append}
 use Rattle.lists.specs.Lists.{any}
+use Rattle.lists.proofs.Fills.{set-next}
 
 -- ---- an array of which the first rows are filled
-pub record Filled {A : Type 0} (most : ℕ) (rows : List A) (count : ℕ) (done : List A) : Type 0 where
+pub record RowsFilled {A : Type 0} (most : ℕ) (rows : List A) (count : ℕ) (done : List A) : Type 0 where
   pub wide : length rows ≡ most
   pub many : count ≡ length done
   pub taken : take count rows ≡ done
 
-filled-none : {A : Type 0} (most : ℕ) (a : A) → Filled most (replicate most a) 0 []
-filled-none most a = record { wide = length-replicate most a; many = refl; taken = refl }
+rows-none : {A : Type 0} (most : ℕ) (a : A) → RowsFilled most (replicate most a) 0 []
+rows-none most a = record { wide = length-replicate most a; many = refl; taken = refl }
 
-filled-more : {A : Type 0} (most : ℕ) (rows : List A) (count : ℕ) (done : List A) (x : A) → Filled most rows count done → count < most
-    → Filled most (set rows count x) (count + 1) (done ++ (x ∷ []))
-filled-more most rows count done x y h =
-    let e : count + 1 ≡ suc count = omega arith in
-    record {
-      wide = length-set rows count x ∙ y .wide;
-      many = sym (length-append done (x ∷ []) ∙ ap (λ (n : ℕ). n + 1) (sym (y .many)));
-      taken = rw e (take-suc-set rows count x (omega (arith, h, y .wide)) ∙ ap (λ (l : List _). l ++ (x ∷ [])) (y .taken));
-    }
+rows-more : {A : Type 0} (most : ℕ) (rows : List A) (count : ℕ) (done : List A) (x : A) → RowsFilled most rows count done → count < most
+    → RowsFilled most (set rows count x) (count + 1) (done ++ (x ∷ []))
+rows-more most rows count done x y h = record {
+  wide = length-set rows count x ∙ y .wide;
+  many = sym (length-append done (x ∷ []) ∙ ap (λ (n : ℕ). n + 1) (sym (y .many)));
+  taken = set-next rows count x (omega (arith, h, y .wide)) ∙ ap (λ (l : List _). l ++ (x ∷ [])) (y .taken);
+}
 
 -- ---- one known element after the other, of which at most so many are kept
 kept-snoc : (p : Known → Bool) (ds : List Known) (k : Known) → kept p (ds ++ (k ∷ [])) ≡ cond (p k) (kept p ds ++ (k ∷ [])) (kept p ds)
@@ -127,7 +126,7 @@ module _ (f : List ℕ) (k : Known) (y : Fit f k) where
 
 module _ (f : List ℕ) where
   abbrev TriggersHold : Triggers → List Known → Type 0
-  TriggersHold t ds = Filled 32 (t .rows) (t .count) (map triggerOf (kept (isIn "TRIGGERS") ds))
+  TriggersHold t ds = RowsFilled 32 (t .rows) (t .count) (map triggerOf (kept (isIn "TRIGGERS") ds))
 
   trigger-turn : (t : Triggers) (ds : List Known) (k : Known) → Fit f k → length (kept (isIn "TRIGGERS") (ds ++ (k ∷ []))) ≤ 32
       → TriggersHold t ds → TriggersHold (tellTrigger f t (entryOf k)) (ds ++ (k ∷ []))
@@ -140,7 +139,7 @@ module _ (f : List ℕ) where
       let n : length (ms ++ (k ∷ [])) ≤ 32 = rw e at h in
       let c : t .count < 32 = omega (arith, n, length-append ms (k ∷ []), z .many, length-map ms triggerOf) in
       rw (y .named, u, lt-ltb (t .count) 32 c, trigger-is f k y u, e, map-append triggerOf ms (k ∷ []))
-      (filled-more 32 (t .rows) (t .count) (map triggerOf ms) (triggerOf k) z c))
+      (rows-more 32 (t .rows) (t .count) (map triggerOf ms) (triggerOf k) z c))
       (λ u. rw (y .named, u, kept-out (isIn "TRIGGERS") ds k u) z)
 
   pub triggers-law : (ks : List Known) → All (Fit f) ks → length (kept (isIn "TRIGGERS") ks) ≤ 32
@@ -148,7 +147,7 @@ module _ (f : List ℕ) where
       ≡ map triggerOf (kept (isIn "TRIGGERS") ks)
   unfolding kept
   triggers-law ks y h =
-      fold-holds (tellTrigger f) f (isIn "TRIGGERS") 32 TriggersHold trigger-turn ks noTriggers y h (filled-none 32 noTrigger) .taken
+      fold-holds (tellTrigger f) f (isIn "TRIGGERS") 32 TriggersHold trigger-turn ks noTriggers y h (rows-none 32 noTrigger) .taken
 
 -- ---- names
 -- an attribute that the rules require is given
@@ -194,9 +193,9 @@ module _ (f : List ℕ) where
   nameAt k = valueAt (bytes "name") f (k .place)
 
   pub record NamesHold (n : Names) (ds : List Known) : Type 0 where
-    pub starts : Filled 32 (n .starts) (n .count) (map (λ k. nameAt k .from) (kept (isIn "TRIGGERS") ds))
-    pub ends : Filled 32 (n .ends) (n .count) (map (λ k. nameAt k .to) (kept (isIn "TRIGGERS") ds))
-    pub places : Filled 32 (n .places) (n .count) (map (λ k. k .place) (kept (isIn "TRIGGERS") ds))
+    pub starts : RowsFilled 32 (n .starts) (n .count) (map (λ k. nameAt k .from) (kept (isIn "TRIGGERS") ds))
+    pub ends : RowsFilled 32 (n .ends) (n .count) (map (λ k. nameAt k .to) (kept (isIn "TRIGGERS") ds))
+    pub places : RowsFilled 32 (n .places) (n .count) (map (λ k. k .place) (kept (isIn "TRIGGERS") ds))
 
   name-turn : (n : Names) (ds : List Known) (k : Known) → Fit f k → length (kept (isIn "TRIGGERS") (ds ++ (k ∷ []))) ≤ 32 → NamesHold n ds
       → NamesHold (tellName f n (entryOf k)) (ds ++ (k ∷ []))
@@ -212,13 +211,13 @@ module _ (f : List ℕ) where
       (record {
         starts =
             rw (e, map-append (λ j. nameAt j .from) ms (k ∷ []))
-            (filled-more 32 (n .starts) (n .count) (map (λ j. nameAt j .from) ms) (nameAt k .from) (z .starts) c);
+            (rows-more 32 (n .starts) (n .count) (map (λ j. nameAt j .from) ms) (nameAt k .from) (z .starts) c);
         ends =
             rw (e, map-append (λ j. nameAt j .to) ms (k ∷ []))
-            (filled-more 32 (n .ends) (n .count) (map (λ j. nameAt j .to) ms) (nameAt k .to) (z .ends) c);
+            (rows-more 32 (n .ends) (n .count) (map (λ j. nameAt j .to) ms) (nameAt k .to) (z .ends) c);
         places =
             rw (e, map-append (λ j. j .place) ms (k ∷ []))
-            (filled-more 32 (n .places) (n .count) (map (λ j. j .place) ms) (k .place) (z .places) c);
+            (rows-more 32 (n .places) (n .count) (map (λ j. j .place) ms) (k .place) (z .places) c);
       }))
       (λ u.
       let e = kept-out (isIn "TRIGGERS") ds k u in
@@ -229,7 +228,7 @@ module _ (f : List ℕ) where
   unfolding kept
   names-hold ks y h =
       fold-holds (tellName f) f (isIn "TRIGGERS") 32 NamesHold name-turn ks noNames y h
-      (record { starts = filled-none 32 0; ends = filled-none 32 0; places = filled-none 32 0 })
+      (record { starts = rows-none 32 0; ends = rows-none 32 0; places = rows-none 32 0 })
 
   name-is : (k : Known) → Fit f k → isIn "TRIGGERS" k ≡ true → slice (nameAt k .from) (nameAt k .to) f ≡ Tables.nameOf k
   name-is k y t =

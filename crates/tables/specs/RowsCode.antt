@@ -1,5 +1,6 @@
--- What the functions answer, for every input: one entry of an index after the other says what it says. The crate table_laws ties it to the
--- tables of a document.
+-- What the functions answer, for every input: one entry of an index after the other says what it says. Code-shaped; proofs/Laws.antt ties
+-- it
+-- to the definitions. Nothing here has to be believed.
 use Prim.Native.Nat.{ℕ, _+_, _-_, _/_, _%_, _^_}
 use Prim.Native.String.{String}
 use mathlib.Core.List.{List, [], _∷_}

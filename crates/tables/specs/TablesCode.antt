@@ -1,5 +1,4 @@
--- What the functions answer, for every input. Code-shaped; the crate table_laws ties it to the definitions. Nothing here has to be
--- believed.
+-- What the functions answer, for every input. Code-shaped; proofs/Laws.antt ties it to the definitions. Nothing here has to be believed.
 use Prim.Native.Nat.{ℕ}
 use mathlib.Core.Path.{_≡_}
 use mathlib.Core.List.{List, [], _∷_, _++_}
@@ -21,7 +20,7 @@ use Rattle.tables.specs.declared.rows.Told.{Told}
 use Rattle.tables.specs.RowsCode.{entriesOf, isUnder, told}
 use Rattle.file_rules.specs.declared.Refusal.{Refusal}
 use Rattle.file_rules.specs.RefusalCode.{refusedAt}
-use Rattle.tables.specs.declared.Tables.{Tables}
+use Rattle.tables.specs.declared.Telling.{Telling}
 use Rattle.lists.specs.Lists.{any}
 use Rattle.lists.specs.FlagsCode.{lacksFirst}
 
@@ -62,11 +61,11 @@ orElse a b = cond (eqb (a .number) 0) b a
 unfoldable pub tableFault : List ℕ → Index → Told → Refusal
 tableFault f x t = orElse (nameFault f (t .names)) (orElse (busFault (t .head) x) (channelFault f (t .head) x))
 
-unfoldable pub tabled : List ℕ → Index → Tables
+unfoldable pub tabled : List ℕ → Index → Telling
 tabled f x = record { fault = orElse (x .fault) (tableFault f x (told f x)); told = told f x }
 
 -- the tables of a file, by its index
-pub record Tabled (f : List ℕ) (r : Tables) : Type 0 where
+pub record Tabled (f : List ℕ) (r : Telling) : Type 0 where
   pub index : Index
   pub indexes : Indexes f index
   pub same-tables : r ≡ tabled f index

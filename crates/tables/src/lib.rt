@@ -33,7 +33,8 @@ use schema::Kind;
 use text::texts;
 use values::Worth;
 
-pub struct Tables {
+// What a file says, or its first refusal.
+pub struct Telling {
     pub fault: Refusal,
     pub told: Told,
 }
@@ -225,15 +226,15 @@ fn table_fault(file: &[u8], index: Index, told: Told) -> Refusal
 }
 
 // The tables of a file, or the first of its refusals 1 to 10.
-pub fn read_tables(file: &[u8]) -> Tables
+pub fn read_tables(file: &[u8]) -> Telling
     ensures { λ r. ⌜ Tabled (now (file .entry)) r ⌝ }
 {
     let index = document::read_index(file);
     let told = rows::tell(file, index);
     let first = index.fault;
     if first.number != 0 {
-        return Tables { fault: first, told };
+        return Telling { fault: first, told };
     }
     let fault = table_fault(file, index, told);
-    Tables { fault, told }
+    Telling { fault, told }
 }

@@ -2,45 +2,39 @@
 use Prim.Native.Nat.{ℕ, _+_, _-_, _≤_, _<_}
 use native.Mathlib.Omega.{arith}
 use mathlib.Core.Path.{_≡_, refl, sym, ap, _∙_}
-use mathlib.Core.List.{List, [], _∷_, _++_, append-assoc, append-nil}
-use lib.ListN.{length, getD, take, drop, set, length-append, length-drop, length-set, drop-of-length-le}
+use mathlib.Core.List.{List, [], _++_, append-assoc, append-nil}
+use lib.ListN.{length, getD, take, drop, set, length-append, length-drop, drop-of-length-le}
 use lib.Seq.{take-all, take-at, drop-at, drop-drop, length-take-le, take-append-add, take-append-le, take-nil}
 use Rattle.lists.proofs.Cases.{le-or-lt}
-use Rattle.lists.proofs.Fills.{fill-one}
+use Rattle.lists.proofs.Fills.{Filled, filled-none, filled-all, filled-copy}
 use Rattle.walk.specs.WalkCode.{LaidDown}
 
 -- the first n bytes of t are at the front of d
-pub record Filled (t d : List ℕ) (n : ℕ) (e : List ℕ) : Type 0 where
+pub record Laying (t d : List ℕ) (n : ℕ) (e : List ℕ) : Type 0 where
   pub short : n ≤ length t
-  pub room : n ≤ length d
-  pub bytes : e ≡ take n t ++ drop n d
-  pub long : length e ≡ length d
+  pub filled : Filled (take n t) d e n
 
-pub filled-none : (t d : List ℕ) → Filled t d 0 d
-filled-none t d = record { short = omega arith; room = omega arith; bytes = refl; long = refl }
+pub laying-none : (t d : List ℕ) → Laying t d 0 d
+laying-none t d = record { short = omega arith; filled = filled-none d }
 
-module _ (t d : List ℕ) (n : ℕ) (e : List ℕ) (x : Filled t d n e) where
-  pub filled-more : n < length t → n < length d → Filled t d (n + 1) (set e n (getD t n 0))
-  filled-more h k = record {
-    short = omega arith;
-    room = omega arith;
-    bytes = rw (x .bytes) (fill-one 0 t d n h k);
-    long = length-set e n (getD t n 0) ∙ x .long;
-  }
+module _ (t d : List ℕ) (n : ℕ) (e : List ℕ) (x : Laying t d n e) where
+  pub laying-more : n < length t → n < length d → Laying t d (n + 1) (set e n (getD t n 0))
+  laying-more h k = record { short = omega arith; filled = filled-copy t d e n 0 (x .filled) h k }
 
-  pub filled-full : n < length t → length d ≤ n → LaidDown t d n e
-  filled-full h k =
-      let q : n ≡ length d = omega (arith, x .room) in
+  pub laying-full : n < length t → length d ≤ n → LaidDown t d n e
+  laying-full h k =
+      let q : n ≡ length d = omega (arith, x .filled .within) in
       record {
         count = q ∙ sym (length-take-le (length d) t (omega arith));
-        bytes = x .bytes ∙ rw (q, drop-of-length-le d {i = length d} (omega arith), drop-of-length-le d {i = length t} (omega arith));
+        bytes = filled-all (x .filled)
+            ∙ rw (q, drop-of-length-le d {i = length d} (omega arith), drop-of-length-le d {i = length t} (omega arith));
       }
 
-  pub filled-whole : length t ≤ n → LaidDown t d n e
-  filled-whole h =
+  pub laying-whole : length t ≤ n → LaidDown t d n e
+  laying-whole h =
       let q : n ≡ length t = omega (arith, x .short) in
-      let a : take (length d) t ≡ t = take-all (length d) t (omega (arith, x .room)) in
-      record { count = rw a q; bytes = x .bytes ∙ rw (q, a, take-all (length t) t (omega arith)) }
+      let a : take (length d) t ≡ t = take-all (length d) t (omega (arith, x .filled .within)) in
+      record { count = rw a q; bytes = filled-all (x .filled) ∙ rw (q, a, take-all (length t) t (omega arith)) }
 
 pub laid-none : (d : List ℕ) → LaidDown [] d 0 d
 laid-none d = let e = take-nil {A = ℕ} (length d) in record { count = sym (ap length e); bytes = rw e refl }

@@ -1,5 +1,5 @@
--- What the functions answer, for every input. Code-shaped, over specs/Steps.antt of `walk_rules`; proofs/PiecesLaws.antt says what a part
--- is. Nothing here has to be believed.
+-- What the functions answer, for every input. Code-shaped, over WalkCode.antt; proofs/PiecesLaws.antt says what a part is. Nothing here has
+-- to be believed.
 use Prim.Native.Nat.{ℕ, _-_}
 use mathlib.Core.List.{List}
 use mathlib.Core.Bool.{Bool, true, false, cond, _&&_}

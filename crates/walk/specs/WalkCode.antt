@@ -1,4 +1,5 @@
--- What the functions answer, for every input. Code-shaped, by spans and offsets; the crate walk_laws ties it to the grammar.
+-- What the functions answer, for every input. Code-shaped, by spans and offsets; proofs/WalkLaws.antt ties it to the grammar. Nothing here
+-- has to be believed.
 use Prim.Native.Nat.{ℕ, zero, suc, _+_}
 use mathlib.Core.Path.{_≡_}
 use mathlib.Core.List.{List, [], _∷_, _++_}

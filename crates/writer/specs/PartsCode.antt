@@ -1,4 +1,4 @@
--- What the functions that write a part of a plan say. Nobody has to believe it: `write` is proved against Sheet.antt.
+-- What the functions that write a part of a plan say. Nobody has to believe it: `write` is proved against SheetCode.antt.
 use Prim.Native.Nat.{ℕ}
 use mathlib.Core.Path.{_≡_}
 use mathlib.Core.List.{List, [], _∷_, _++_}

@@ -7,7 +7,7 @@ use native.Mathlib.Omega.{arith}
 use mathlib.Core.Path.{sym, subst, _∙_}
 use lib.ListN.{length}
 use Rattle.grammar.specs.Lex.{namesIn}
-use Rattle.grammar.specs.TokensCode.{Stands, lexed}
+use Rattle.grammar.specs.TokensCode.{LexemeAt, lexed}
 use Rattle.grammar.proofs.Tokens.{Turn, first-turn, onwards, token-turn, blank-turn, wrong-there, full, all-read}
 use borrow.Author.Needs.{needs}
 
@@ -31,7 +31,7 @@ no-tokens-requires c κs = search needs
 
 returns : tie.Need-returns Inv-loop μ-loop
 unfolding lexed
-returns c = c .no-tokens .ensures ∙ sym (full (c .before .before .before .before .before .before .before .loop .inv) (c .before .if1 .taken) (subst (Stands _ _ _) (c .before .before .before .t .given .1) (c .before .before .before .before .before .next-token .ensures)))
+returns c = c .no-tokens .ensures ∙ sym (full (c .before .before .before .before .before .before .before .loop .inv) (c .before .if1 .taken) (subst (LexemeAt _ _ _) (c .before .before .before .t .given .1) (c .before .before .before .before .before .next-token .ensures)))
 
 mul-tokens : tie.Need-mul-tokens Inv-loop μ-loop
 mul-tokens c = search needs
@@ -43,10 +43,10 @@ add-count : tie.Need-add-count Inv-loop μ-loop
 add-count c = omega (arith, c .before .before .before .before .before .before .loop .inv .room)
 
 loop-less : tie.Need-loop-less Inv-loop μ-loop
-loop-less c = omega (arith, onwards (subst (Stands _ _ _) (c .before .before .t .given .1) (c .before .before .before .before .next-token .ensures)))
+loop-less c = omega (arith, onwards (subst (LexemeAt _ _ _) (c .before .before .t .given .1) (c .before .before .before .before .next-token .ensures)))
 
 loop-again : tie.Need-loop-again Inv-loop μ-loop
-loop-again c = token-turn (c .before .before .before .before .before .before .loop .inv) (omega (arith, c .before .before .before .before .before .before .loop .inv .room)) (subst (Stands _ _ _) (c .before .before .t .given .1) (c .before .before .before .before .next-token .ensures))
+loop-again c = token-turn (c .before .before .before .before .before .before .loop .inv) (omega (arith, c .before .before .before .before .before .before .loop .inv .room)) (subst (LexemeAt _ _ _) (c .before .before .t .given .1) (c .before .before .before .before .next-token .ensures))
 
 enum-told : tie.Need-enum-told Inv-loop μ-loop
 enum-told c = search needs
@@ -58,7 +58,7 @@ loop-less-2 : tie.Need-loop-less-2 Inv-loop μ-loop
 loop-less-2 c = omega arith
 
 loop-again-2 : tie.Need-loop-again-2 Inv-loop μ-loop
-loop-again-2 c = blank-turn (c .before .before .before .before .loop .inv) (c .before .before .before .loop-test .taken) (subst (Stands _ _ _) (c .enum-told .given .1) (c .before .before .next-token .ensures))
+loop-again-2 c = blank-turn (c .before .before .before .before .loop .inv) (c .before .before .before .loop-test .taken) (subst (LexemeAt _ _ _) (c .enum-told .given .1) (c .before .before .next-token .ensures))
 
 enum-told-2 : tie.Need-enum-told-2 Inv-loop μ-loop
 enum-told-2 c = search needs
@@ -68,7 +68,7 @@ no-tokens-requires-2 c κs = search needs
 
 returns-2 : tie.Need-returns-2 Inv-loop μ-loop
 unfolding lexed
-returns-2 c = c .no-tokens2 .ensures ∙ sym (wrong-there (c .before .before .before .before .before .loop .inv) (subst (Stands _ _ _) (c .before .enum-told2 .given .1) (c .before .before .before .next-token .ensures)))
+returns-2 c = c .no-tokens2 .ensures ∙ sym (wrong-there (c .before .before .before .before .before .loop .inv) (subst (LexemeAt _ _ _) (c .before .enum-told2 .given .1) (c .before .before .before .next-token .ensures)))
 
 returns-3 : tie.Need-returns-3 Inv-loop μ-loop
 unfolding lexed

@@ -7,7 +7,8 @@ use native.Mathlib.Omega.{arith}
 use lib.ListN.{length-set}
 use borrow.Author.Tests.{le-leb, lt-leb}
 use Rattle.replay.specs.Wire.{answerBytes}
-use Rattle.replay.proofs.Bytes.{filled-all, filled-room, put-1, put-2, put-3, put-4, put-5, put-6}
+use Rattle.lists.proofs.Fills.{filled-all, filled-room}
+use Rattle.replay.proofs.Bytes.{put-1, put-2, put-3, put-4, put-5, put-6}
 
 returns : tie.Need-returns
 returns c = λ fired truth started last. rw (lt-leb _ _ (c .if1 .taken))
