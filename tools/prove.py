@@ -70,14 +70,16 @@ def asked(said):
 
 def show(said, width=900, most=150):
     if os.path.exists(PRETTY): said = subprocess.run(['python3', PRETTY], input=said, capture_output=True, text=True).stdout
-    lines, i, n = said.split('\n'), 0, 0
+    lines, i, n, waiting = said.split('\n'), 0, 0, 0
     while i < len(lines):
         l = lines[i]; i += 1
-        if l.startswith(('help: write ', 'note: what antt said', "note: antt's advice")):
+        if 'was not admitted (it has holes' in l: waiting += 1
+        elif l.startswith(('help: write ', 'note: what antt said', "note: antt's advice")):
             while i < len(lines) and (lines[i].startswith('  ') or (l.startswith('help') and not lines[i].strip())): i += 1
         elif l.strip() and not l.endswith(': no holes'):
             if n < most: print(l[:width])
             n += 1
+    if waiting: print(f'({waiting} more wait for these)')
 
 
 # ---- what is in reach

@@ -10,14 +10,12 @@ use lib.Dec.{ltb}
 use lib.ListN.{length, take, drop}
 use Rattle.text.specs.Texts.{bytes}
 use Rattle.shape.specs.declared.Shape.{Shape}
-use Rattle.shape.specs.Shape.{Node, WellShaped, Shaped}
-use Rattle.shape.specs.Shape as xml
+use Rattle.shape.specs.Shape.{Node, WellShaped, Shaped, shapeRefusal}
 use Rattle.values.specs.declared.Number.the-variants.{Value}
 use Rattle.values.specs.Values.{digit, numberSpelt}
 use Rattle.code.specs.Code.{Runs}
 use Rattle.loader.specs.declared.Loaded.{Loaded}
-use Rattle.loader.specs.Plan.{PlanOf, Loads}
-use Rattle.loader.specs.Plan as loader
+use Rattle.loader.specs.Plan.{PlanOf, Loads, loadRefusal}
 use Rattle.grammar.specs.declared.Compiled.{Compiled}
 use Rattle.file_rules.specs.Element.{Fault}
 use Rattle.file_rules.specs.Document.{knownElements, elementFaults}
@@ -30,8 +28,7 @@ use Rattle.event_rules.specs.declared.Engine.{Engine}
 use Rattle.event_rules.specs.declared.Counts.{Counts}
 use Rattle.event_rules.specs.declared.Outcome.{Outcome}
 use Rattle.event_rules.specs.Rules.{Config, Event}
-use Rattle.event_rules.specs.Calls.{fresh, noCounts, step, configOf, Answers}
-use Rattle.event_rules.specs.Calls as calls
+use Rattle.event_rules.specs.Calls.{fresh, noCounts, eventRefusal, answerRefusal, step, configOf, Answers}
 use Rattle.event_rules.specs.History.{Which, countOf, howMany, answersTo, after}
 use Rattle.replay.specs.Replay.{Replays}
 use Rattle.logger_c.specs.Calls.{Loading}
@@ -44,7 +41,7 @@ use Rattle.lists.specs.Lists.{all}
 
 -- a file's refusal: by its shape 1 or 2; else the first of its faults in the paper's order
 pub data Refuses (s d : List ℕ) (n p : ℕ) : Type 0 where
-  by-shape : (a : Shape) → Shaped s a → xml.shapeRefusal a ≡ some (n, p) → Refuses s d n p
+  by-shape : (a : Shape) → Shaped s a → shapeRefusal a ≡ some (n, p) → Refuses s d n p
   by-fault :
       (x : Node) (c : List ℕ → Compiled) (l : List Fault)
       → length s ≤ 32768
@@ -58,7 +55,7 @@ pub data Rejects (ws : List ℕ) (en : Engine) (k : Counts) (e : Event) (n : ℕ
   no-plan : (PlanOf ws → ⊥) → n ≡ 20 → Rejects ws en k e n
   by-rules :
       (p : PlanOf ws)
-      → n ≡ calls.eventRefusal (configOf (p .plan)) en k e
+      → n ≡ eventRefusal (configOf (p .plan)) en k e
       → n ≡ 21 ⊎ n ≡ 22 ⊎ n ≡ 23 ⊎ n ≡ 24
       → Rejects ws en k e n
 
@@ -70,13 +67,13 @@ pub record Demand1 : Type 0 where
       → convertRefusal r ≡ some (n, p)
       → Refuses s d n p × (out ≡ d)
   pub one-file : (s d : List ℕ) (r r′ : Converted) (out out′ : List ℕ) → Converts s d r out → Converts s d r′ out′ → (r ≡ r′) × (out ≡ out′)
-  pub plan : (ws : List ℕ) (r : Loaded) → Loads ws r → (n p : ℕ) → loader.loadRefusal r ≡ some (n, p) → (n ≡ 20) × (p ≡ 0) × (PlanOf ws → ⊥)
+  pub plan : (ws : List ℕ) (r : Loaded) → Loads ws r → (n p : ℕ) → loadRefusal r ≡ some (n, p) → (n ≡ 20) × (p ≡ 0) × (PlanOf ws → ⊥)
   pub one-plan : (ws : List ℕ) (r r′ : Loaded) → Loads ws r → Loads ws r′ → r ≡ r′
   pub event :
       (ws : List ℕ) (en : Engine) (k : Counts) (e : Event) (o : Outcome)
       → Answers ws en k e o
       → (n p : ℕ)
-      → calls.answerRefusal (o .answer) ≡ some (n, p)
+      → answerRefusal (o .answer) ≡ some (n, p)
       → Rejects ws en k e n × (p ≡ 0) × (o .engine ≡ en) × (o .counts ≡ k)
   pub one-event :
       (ws : List ℕ) (en : Engine) (k : Counts) (e : Event) (o o′ : Outcome)
@@ -89,7 +86,7 @@ pub record Demand1 : Type 0 where
       → Answers ws en k e o
       → after ≡ o .counts
       → (n p : ℕ)
-      → calls.answerRefusal (o .answer) ≡ some (n, p)
+      → answerRefusal (o .answer) ≡ some (n, p)
       → after ≡ k
   -- the C functions: the plan's length, or a refusal's number above its place; 0 or 20; and every byte of a replay's answers
   pub c-convert :
@@ -175,12 +172,12 @@ pub record Demand3 : Type 0 where
       → Converts s d (Words n) out
       → (r : Loaded)
       → Loads (take n out) r
-      → loader.loadRefusal r ≡ none
+      → loadRefusal r ≡ none
   -- "In a plan that it takes, expression code never pops from an empty stack, never holds more than 24 values, and ends with one."
   pub safe-code :
       (ws : List ℕ) (r : Loaded)
       → Loads ws r
-      → loader.loadRefusal r ≡ none
+      → loadRefusal r ≡ none
       → (p : PlanOf ws) × Every (λ t. (v : ℕ → Bool) → Runs v (t .code)) (p .plan .statements)
   -- the counts are those of the history
   pub counts : (c : Config) (w : Which) (es : List Event)
