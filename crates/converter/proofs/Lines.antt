@@ -112,8 +112,7 @@ module _ (f : List ℕ) (n : Names) (names : List (List ℕ)) (same-names : name
     fault-of =
         ap (gathered faultAt) (r .only)
         ∙ (append-nil (faultAt (r .expression))
-        ∙
-        (ap (λ (y : Compiled). faultOf (verdictRefusal (y .verdict)) (r .expression .place)) (sym code-at)
+        ∙ (ap (λ (y : Compiled). faultOf (verdictRefusal (y .verdict)) (r .expression .place)) (sym code-at)
         ∙ ap (faultOf (verdictRefusal (compiledAt f n (d .text) .verdict))) (sym (r .place))))
 
   -- ---- all statements

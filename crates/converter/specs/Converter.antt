@@ -48,8 +48,7 @@ expressionFaults c ks =
 -- "Order: .. 3; then known elements ..; then 8, 9, 10; then statements in order, 11 before 12; then 13."
 unfoldable pub faults : (List ℕ → Compiled) → ℕ → Node → List Fault
 faults c room x = elementFaults x
-    ++
-    (tableFaults (knownElements x) ++ (expressionFaults c (knownElements x)
+    ++ (tableFaults (knownElements x) ++ (expressionFaults c (knownElements x)
     ++ 13 at length (wordsFor c x) if ltb room (length (wordsFor c x))))
 
 -- what the rules of expressions give for the triggers' names of a document

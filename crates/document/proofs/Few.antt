@@ -88,8 +88,7 @@ module _ (load : List ℕ → ℕ) where
         earlier = earlier;
         place = p;
         name = n;
-        attributes =
-            l;
+        attributes = l;
         items = i;
       }) ≡ false → load n + room t cs (n ∷ earlier) ≤ room t cs earlier
   unfolding tooMany

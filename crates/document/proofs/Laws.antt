@@ -89,8 +89,7 @@ entered-number x k p = by-cases (ltb (x .count) 382) (λ t. rw t) (λ t. rw t)
 
 absorb-at : (k : Known) (ks : List Known) (x : Index) → x .fault .number ≡ 0 → (a : Fault) (l fs : List Fault) → ownFaults k ≡ fs
     → fs ++ gathered ownFaults ks ≡ a ∷ l
-    →
-    ((x : Index) → x .fault .number ≡ 0 → (a : Fault) (l : List Fault) → gathered ownFaults ks ≡ a ∷ l
+    → ((x : Index) → x .fault .number ≡ 0 → (a : Fault) (l : List Fault) → gathered ownFaults ks ≡ a ∷ l
     → absorb ks x ≡ refusedIndex (a .number) (a .place)) → absorb ks (absorbed k x) ≡ refusedIndex (a .number) (a .place)
 unfolding firstNumber
 absorb-at k ks x z a l [] e g rec =
@@ -102,8 +101,7 @@ absorb-at k ks x z a l (b ∷ fs) e g rec =
     let w : b .number ≡ 0 → ⊥ = λ y. absurd (omega (arith, ap length (sym e ∙ no-fault k (h ∙ y)))) in
     let c : absorbed k x ≡ refusedIndex (b .number) (k .place) = absorb-refuse k x (eq-eqb (x .fault .number) 0 z) (b .number) h w in
     ap (absorb ks) c
-    ∙
-    (absorb-still ks (refusedIndex (b .number) (k .place)) w
+    ∙ (absorb-still ks (refusedIndex (b .number) (k .place)) w
     ∙ (ap (refusedIndex (b .number)) (sym (fault-place k b fs e))
     ∙ ap (λ (y : Fault). refusedIndex (y .number) (y .place)) (head-of g)))
 

@@ -163,8 +163,7 @@ module _ (q : Kind) (earlier : List (List ℕ)) (s : Seen) (y : SeenIs q earlier
           earlier = earlier;
           place = p;
           name = n;
-          attributes =
-              l;
+          attributes = l;
           items = i;
         })
     unfolding tooMany small

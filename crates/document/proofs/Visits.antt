@@ -139,8 +139,7 @@ module _ (f : List ℕ) where
         rw (visit-child (visitFrom f d) f q j s r n t, x .3, skip-law f d j (x .0) (x .2) (x .4) deep)
         (record {
           index = a .index
-              ∙
-              (ap (absorb (knownIn Q c (x .1))) (g .index)
+              ∙ (ap (absorb (knownIn Q c (x .1))) (g .index)
               ∙ sym (absorb-append (knownAt Q earlier (x .0)) (knownIn Q c (x .1)) (r .index)));
           lacking = λ z.
               let w = absorb-none (knownIn Q c (x .1)) (v .index) (ap (λ (m : Index). m .fault .number) (sym (a .index)) ∙ z) in

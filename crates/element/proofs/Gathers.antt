@@ -166,8 +166,7 @@ module _ (kind : Kind) (few : length (rulesFor kind) ≤ 12) where
   seven-is (a ∷ l) g x =
       let p = any (λ b. isNotCarried (worthBy (rulesFor kind) b)) l in
       ap (λ (y : Gathered). y .seven) (fold-fit a l g (x .0) (x .1)) ∙ (seven-is l (taken kind g a) (x .2)
-      ∙
-      (ap (λ w. p || (isNotCarried w || g .seven)) (slot-worth (a .name) (a .value) (x .0))
+      ∙ (ap (λ w. p || (isNotCarried w || g .seven)) (slot-worth (a .name) (a .value) (x .0))
       ∙ swap p (isNotCarried (worthBy (rulesFor kind) a)) (g .seven)))
 
   -- what an attribute does to the slot of the name n
@@ -251,8 +250,7 @@ module _ (kind : Kind) (few : length (rulesFor kind) ≤ 12) where
   has-is (a ∷ l) g z x n k =
       ap (λ (y : Gathered). getD (y .has) (slotOf kind n) false) (fold-fit a l g (x .0) (x .1))
       ∙ (has-is l (taken kind g a) (sized-taken g z a (x .0)) (x .2) n k
-      ∙
-      (ap (λ (t : Bool). given n l || t) (has-taken g z a (x .0) n k)
+      ∙ (ap (λ (t : Bool). given n l || t) (has-taken g z a (x .0) n k)
       ∙ swap (given n l) (same (a .name) n) (getD (g .has) (slotOf kind n) false)))
 
   value-is : (l : List Attribute) (g : Gathered) → Sized g → Fits kind g l → (n : List ℕ) → knows (rulesFor kind) n ≡ true

@@ -225,8 +225,7 @@ of-kind k kind e =
       earlier = k .earlier;
       place = k .place;
       name = n;
-      attributes =
-          k .attributes;
+      attributes = k .attributes;
       items = k .items;
     } in x) (sym e)
 
@@ -281,7 +280,6 @@ module _ (k : Known) (f : List ℕ) (d e : ℕ) (y : ElementAt f (suc d) (k .pla
       let q = of-kind k kind named in
       ap (λ (b : Bool). verdict kind b (gatheredAt kind f (k .place))) (words-law kind named ∙ sym (ap misworded q))
       ∙ (ap (verdict kind (misworded x)) (gather-law f d (k .place) (k .place) (k .name) (k .attributes) (k .items) e y kind)
-      ∙
-      (verdict-is kind (k .parent) (k .earlier) (k .place) (k .attributes) (k .items) (sym (ap (oneOf (k .parent .barred)) named) ∙ h)
+      ∙ (verdict-is kind (k .parent) (k .earlier) (k .place) (k .attributes) (k .items) (sym (ap (oneOf (k .parent .barred)) named) ∙ h)
       (ap tooMany q ∙ m)
       ∙ ap (λ (z : Known). firstNumber (ownFaults z)) q))

@@ -44,13 +44,11 @@ gathers kind f d k e (suc n) j l g s h =
     by-part (walk.partAt f j) refl (part-law f d j l k e s (walk.partAt f j) refl) (λ m l′ g′ s′ h′. gathers kind f d k e n m l′ g′ s′ h′)
   where
     by-part : (p : TagPart) → p ≡ walk.partAt f j → PartTold f d j l k e p
-        →
-        ((m : ℕ) (l′ : List Attribute) (g′ : Gathered) → StartAt f d m l′ k e → length f < n + m
+        → ((m : ℕ) (l′ : List Attribute) (g′ : Gathered) → StartAt f d m l′ k e → length f < n + m
         → gatherFrom kind f n m g′ ≡ gatheredList kind l′ g′) → gatherFrom kind f (suc n) j g ≡ gatheredList kind l g
     by-part (TagPart.Attribute a b c m) r x go =
         gather-next kind f j g n a b c m r
-        ∙
-        (go (m + 1) (x .0) (judgedBy g (askedOf kind (slice a b f)) (slice c m f)) (x .2) (omega (arith, x .3))
+        ∙ (go (m + 1) (x .0) (judgedBy g (askedOf kind (slice a b f)) (slice c m f)) (x .2) (omega (arith, x .3))
         ∙ list-more kind l (record { name = slice a b f; value = slice c m f }) (x .0) g (x .1))
     by-part (TagPart.Open o) r x go = gather-last kind f j g n (TagPart.Open o) r tt ∙ list-none kind l g (x .0)
     by-part (TagPart.Empty o) r x go = gather-last kind f j g n (TagPart.Empty o) r tt ∙ list-none kind l g (x .0)

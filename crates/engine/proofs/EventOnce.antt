@@ -41,8 +41,7 @@ ran-once r r′ times times′ h h′ q =
               ever = e i;
               truth = q i .engine .truth;
               started = q i .engine .started;
-              last =
-                  q i .engine .last;
+              last = q i .engine .last;
             };
         counts = q i .counts;
       },

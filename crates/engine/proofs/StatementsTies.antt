@@ -38,8 +38,7 @@ all-evaluated (s ∷ ss) st a (t ∷ ts) i ha hl =
     on v (some now) h = h ∙ rw (append-snoc a v (now ++ drop (length now) ts)) refl
 
     go : (v : Value)
-        →
-        ((v : Bool) → Evaluates (evaluated ss st) (a ++ (v ∷ [])) ts
+        → ((v : Bool) → Evaluates (evaluated ss st) (a ++ (v ∷ [])) ts
         (evaluateAll ss st (i + 1) (record { ok = true; truth = (a ++ (v ∷ [])) ++ ts })))
         → Evaluates (andThen v (evaluated ss st)) a (t ∷ ts)
         (evaluateFrom v (evaluateAll ss st (i + 1)) i (record { ok = true; truth = a ++ (t ∷ ts) }))

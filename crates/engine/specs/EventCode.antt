@@ -40,8 +40,7 @@ planBy ws lay =
       logAll = eqb (getD ws 2 0) 1;
       triggers = triggersRead ws;
       filters = filtersRead ws lay;
-      statements =
-          statementsRead ws lay;
+      statements = statementsRead ws lay;
     }
 
 -- ---- the state, whose times of the last firings lie elsewhere

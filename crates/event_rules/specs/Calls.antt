@@ -82,8 +82,7 @@ configOf p =
       logAll = p .logAll;
       triggers = p .triggers;
       filters = p .filters;
-      statements =
-          map statementOf (p .statements);
+      statements = map statementOf (p .statements);
     }
 
 -- an event call lent words that the loader would not take gives 20; else the rules decide

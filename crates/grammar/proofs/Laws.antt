@@ -129,8 +129,7 @@ module _ {ts : List ℕ} {at n : ℕ} {o o₁ : List ℕ} {c : List Op} {i m : �
         up = w .up;
         spare = omega (arith, w .spare);
         before = w .before;
-        behind =
-            w .behind;
+        behind = w .behind;
       }
 
 -- what an answer says

@@ -105,8 +105,7 @@ module _ (names : List (List ℕ)) (text : List ℕ) where
       record {
         tokens = ts;
         spelled = spelled text ts .0 l;
-        rules =
-            record { printed = q .0; some-tokens = omega (arith, ap length (q .0)); short = omega arith; shallow = q .1 };
+        rules = record { printed = q .0; some-tokens = omega (arith, ap length (q .0)); short = omega arith; shallow = q .1 };
       } in
       by-cases (allNamed ns) (λ t. rw t (compiles e r (named-all ns t)))
       (λ t. rw t (unnamed e r (λ m. false≢true (sym t ∙ all-named ns m))))

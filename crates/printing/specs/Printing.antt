@@ -33,8 +33,7 @@ refusalText n p = textLine "refused=" n ++ textLine "place=" p
 unfoldable pub planText : Converted → List ℕ → List ℕ
 planText (Words n) ws =
     textLine "channels=" (getD ws 1 0)
-    ++
-    (textLine "log_all=" (getD ws 2 0) ++ (textLine "triggers=" (getD ws 3 0)
+    ++ (textLine "log_all=" (getD ws 2 0) ++ (textLine "triggers=" (getD ws 3 0)
     ++ (textLine "filters=" (getD ws 4 0) ++ (textLine "statements=" (getD ws 5 0) ++ textLine "words=" n))))
 planText (Refused n p) ws = refusalText n p
 

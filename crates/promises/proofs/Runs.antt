@@ -131,8 +131,7 @@ module _ (s ws : List ℕ) (b : Taken-back s ws) where
         logAll = refl;
         triggers = refl;
         filters = refl;
-        statements =
-            statements-own (tablesOf ks .names) (b .rules) (kept (is "STATEMENT") ks) (b .compile);
+        statements = statements-own (tablesOf ks .names) (b .rules) (kept (is "STATEMENT") ks) (b .compile);
       }
 
   read-as : (c : Config) → Says (b .document) c → (p : PlanOf ws) → configOf (p .plan) ≡ c

@@ -42,8 +42,7 @@ puts-none at size x d h =
       upto = omega arith;
       room = h;
       filled = record { words = refl; rest = refl; long = refl; within = omega arith };
-      all =
-          rw (sub-zero size, add-zero at);
+      all = rw (sub-zero size, add-zero at);
     }
 
 pub puts-more : (at size x : ℕ) (d : List ℕ) (left i : ℕ) (e : List ℕ) → Puts at size x d left i e → i < size

@@ -74,10 +74,9 @@ endTime Halted = 0
 -- 2-7 zero, 16-31 the four counts
 unfoldable pub answerBytes : Outcome → List ℕ
 answerBytes o =
-    answerByte (o .answer) ∷ loggingByte (o .engine .logging) ∷ 0 ∷ 0 ∷ 0 ∷ 0 ∷ 0 ∷ 0 ∷ (bytesOf 8 (endTime (o .engine .logging))
-    ++
-    (bytesOf 4 (o .counts .recorded) ++ (bytesOf 4 (o .counts .idle)
-    ++ (bytesOf 4 (o .counts .stopped) ++ bytesOf 4 (o .counts .halted)))))
+    answerByte (o .answer) ∷ loggingByte (o .engine .logging) ∷ 0 ∷ 0 ∷ 0 ∷ 0 ∷ 0 ∷ 0
+    ∷ (bytesOf 8 (endTime (o .engine .logging))
+    ++ (bytesOf 4 (o .counts .recorded) ++ (bytesOf 4 (o .counts .idle) ++ (bytesOf 4 (o .counts .stopped) ++ bytesOf 4 (o .counts .halted)))))
 
 -- an answer written at the front of a buffer; one that has no room for it stays as it was
 abbrev pub withAnswer : Outcome → List ℕ → List ℕ

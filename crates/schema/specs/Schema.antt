@@ -37,9 +37,8 @@ parents =
     "ACTIONS" over ("ACTION_START_LOG" ∷ "ACTION_STOP_LOG" ∷ "ACTION_STOP_LOG_COMPLETELY" ∷ []) times UpTo 6
     bars ("ACTION_EXTERNAL_PULSE" ∷ "EXTERNAL_PULSE" ∷ "ACTION_ACTIVATE_AUTO_TRANSMIT_LIST" ∷ "ACTION_DEACTIVATE_AUTO_TRANSMIT_LIST" ∷ []) ∷
     "FILTERS" over ("MESSAGE_PASS" ∷ "MESSAGE_STOP" ∷ []) times UpTo 32
-    bars
-    ("SIGNAL_PASS" ∷ "SIGNAL_STOP" ∷ "FLAG_PASS" ∷ "FLAG_STOP" ∷ "FLAGS_PASS" ∷ "FLAGS_STOP" ∷ "MESSAGE_COUNTING_PASS"
-    ∷ "SIGNAL_COUNTING_PASS" ∷ "FLAG_COUNTING_PASS" ∷ []) ∷
+    bars ("SIGNAL_PASS" ∷ "SIGNAL_STOP" ∷ "FLAG_PASS" ∷ "FLAG_STOP" ∷ "FLAGS_PASS" ∷ "FLAGS_STOP"
+    ∷ "MESSAGE_COUNTING_PASS" ∷ "SIGNAL_COUNTING_PASS" ∷ "FLAG_COUNTING_PASS" ∷ []) ∷
     "MESSAGE_PASS" over ("CHANNEL" ∷ []) times OneTo 5 bars [] ∷
     "MESSAGE_STOP" over ("CHANNEL" ∷ []) times OneTo 5 bars [] ∷
     []
@@ -84,9 +83,8 @@ n has r = record { name = n; rules = r }
 unfoldable pub elements : List ElementRules
 elements =
     "MODE" has ("log_all" must YesNo 1 ∷ "fifo_mode" must YesNo 1 ∷ []) ∷
-    "PARAMETERS" has
-    ("channel" must 0 to 4 ∷ "bitrate" must 1 to 1000000 ∷ "tseg1" must 1 to 255 ∷ "tseg2" must 1 to 255 ∷ "sjw" must 1 to 255
-    ∷ "silent" must YesNo 1
+    "PARAMETERS" has ("channel" must 0 to 4 ∷ "bitrate" must 1 to 1000000
+    ∷ "tseg1" must 1 to 255 ∷ "tseg2" must 1 to 255 ∷ "sjw" must 1 to 255 ∷ "silent" must YesNo 1
     ∷ "bitrate_brs" may Flexible ∷ "tseg1_brs" may Flexible ∷ "tseg2_brs" may Flexible ∷ "sjw_brs" may Flexible ∷ "iso" may Flexible ∷ []) ∷
     "TRIGGER_MSG_ID" has (triggerRules ++ identifierRules) ∷
     "TRIGGER_MSG_DLC" has (triggerRules ++ ("dlc" must 0 to 8 ∷ "dlc_min" must 0 to 8 ∷ "can_fd" may YesNo 0 ∷ [])) ∷
@@ -97,6 +95,7 @@ elements =
     "MESSAGE_STOP" has (identifierRules ++ ("dlc" may 0 to 8 ∷ "dlc_min" may 0 to 8 ∷ [])) ∷
     []
 
+-- ---- what the tables say of a name
 abbrev pub oneOf : List String → List ℕ → Bool
 oneOf names n = any (λ x. same n (bytes x)) names
 

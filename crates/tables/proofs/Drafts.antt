@@ -199,8 +199,7 @@ acts (c ∷ ms) d l h =
     let p = pushed-word (d .actions) l (wordOf c) (omega (arith, n)) in
     rw a (go (withAction (wordOf c) d) (action-one d c t a)
     ∙ (acts ms (withAction (wordOf c) d) (p .0) (rw (p .1) (omega (arith, n)))
-    ∙
-    (ap (λ (y : List ℕ). y ++ map wordOf (kept (isIn "ACTIONS") ms)) (p .2)
+    ∙ (ap (λ (y : List ℕ). y ++ map wordOf (kept (isIn "ACTIONS") ms)) (p .2)
     ∙ append-assoc (shown (d .actions)) (wordOf c ∷ []) (map wordOf (kept (isIn "ACTIONS") ms))))))
     (λ a. rw a (go d (none-one d c t a) ∙ acts ms d l (rw a at h))))
 

@@ -168,8 +168,7 @@ module _ (f : List ℕ) (ks : List Known) (y : All (Fit f) ks) where
         let b : Known → Bool = λ k. any (leb n) (channelNamed k) in
         rw (channels-are, entries-are ks)
         (ap firstOf (sym (append-nil (gathered (λ k. 10 at k .place if b k) ks)))
-        ∙
-        (first-law (isBeyond f n) b [] ks (all-map (Fit f) (λ k. isBeyond f n (entryOf k) ≡ b k) (λ k z. beyond-law f short n k z) ks y)
+        ∙ (first-law (isBeyond f n) b [] ks (all-map (Fit f) (λ k. isBeyond f n (entryOf k) ≡ b k) (λ k z. beyond-law f short n k z) ks y)
         ∙ or-none (isBeyond f n) (map entryOf ks)))
 
 pub fault-law : (f : List ℕ) (ks : List Known) → length f ≤ 32768 → All (Fit f) ks → length (kept (isIn "TRIGGERS") ks) ≤ 32

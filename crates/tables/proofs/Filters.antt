@@ -144,8 +144,7 @@ adds-all k (m ∷ ms) h cs =
     let c = goodOf (channelOf m) in
     ap (λ (x : Filter). foldl adding x ms)
     (adding-one k (sumFrom 5 cs) m (h .0) ∙ ap (λ (n : ℕ). filterOf n k) (mask-more cs c (channel-low m)))
-    ∙
-    (adds-all k ms (h .1) (cs ++ (c ∷ [])) ∙ ap (λ (l : List ℕ). filterOf (sumFrom 5 l) k)
+    ∙ (adds-all k ms (h .1) (cs ++ (c ∷ [])) ∙ ap (λ (l : List ℕ). filterOf (sumFrom 5 l) k)
     (append-assoc cs (c ∷ []) (map (λ c. goodOf (channelOf c)) ms)))
 
 filled : (k : Known) → block (k .name) ≡ true → foldl adding (start k) (within k) ≡ filterOf (sumFrom 5 (channelsOf k)) k

@@ -50,8 +50,7 @@ module _ (f : List ℕ) (x : Node) (short : length f ≤ 32768) (w : WellShaped 
   unfolding tablesOf
   filters-are =
       ap (λ (y : Filters). take (y .count) (y .rows)) (told-filters f (knownElements x))
-      ∙
-      (filters-law f x short fits (few-filters x e)
+      ∙ (filters-law f x short fits (few-filters x e)
       ∙ sym (map-twice (λ k. (filterOf (sumFrom 5 (channelsOf k)) k, channelsOf k, has k "dlc")) (λ y. y .0)
       (kept (isIn "FILTERS") (knownElements x))))
 

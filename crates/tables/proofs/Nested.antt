@@ -260,8 +260,7 @@ changed-rows {D = D} g rows n d l h =
     let e : n ≡ suc (n - 1) = omega arith in
     let b : n - 1 < length rows = omega arith in
     ap (λ (m : ℕ). take m (set rows (n - 1) (g y))) e
-    ∙
-    (take-suc-set rows (n - 1) (g y) b ∙ sym (ap (λ (m : ℕ). changed g (take m rows)) e
+    ∙ (take-suc-set rows (n - 1) (g y) b ∙ sym (ap (λ (m : ℕ). changed g (take m rows)) e
     ∙ (ap (changed g) (take-suc rows (n - 1) d b) ∙ changed-last g (take (n - 1) rows) y)))
 
 pub no-rows : {D : Type 0} (g : D → D) (rows : List D) (n : ℕ) → n ≡ 0 → take n rows ≡ changed g (take n rows)

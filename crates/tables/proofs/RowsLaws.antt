@@ -72,8 +72,7 @@ module _ (f : List ℕ) (t : Names) (e : Entry) where
       → record {
         starts = set (t .starts) (t .count) (p .from);
         ends = set (t .ends) (t .count) (p .to);
-        places =
-            set (t .places) (t .count) (e .place);
+        places = set (t .places) (t .count) (e .place);
         count = t .count + 1;
       } ≡ tellName f t e
   unfolding tellName pushName
@@ -122,8 +121,7 @@ module _ (f : List ℕ) (t : writer-filters.Filters) (e : Entry) where
               ext = before .ext;
               lower = before .lower;
               upper = before .upper;
-              shortest =
-                  before .shortest;
+              shortest = before .shortest;
               longest = before .longest;
             });
         count = t .count;

@@ -65,8 +65,7 @@ pushName n p place =
     (record {
       starts = set (n .starts) (n .count) (p .from);
       ends = set (n .ends) (n .count) (p .to);
-      places =
-          set (n .places) (n .count) place;
+      places = set (n .places) (n .count) place;
       count = n .count + 1;
     }) n
 
@@ -95,8 +94,7 @@ masked x c =
       ext = x .ext;
       lower = x .lower;
       upper = x .upper;
-      shortest =
-          x .shortest;
+      shortest = x .shortest;
       longest = x .longest;
     }
 
@@ -165,8 +163,7 @@ tellHead f h e =
     cond (isKind (e .kind) "PARAMETERS")
     (record {
       channels = cond (ltb (h .channels) 5) (h .channels + 1) (h .channels);
-      present =
-          set (h .present) (reading.slotValue (e .kind) 0 f (e .place)) true;
+      present = set (h .present) (reading.slotValue (e .kind) 0 f (e .place)) true;
       all = h .all;
     })
     (cond (isKind (e .kind) "MODE") (record {

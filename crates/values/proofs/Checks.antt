@@ -43,6 +43,5 @@ others =
       forever = refl;
       large = refl;
       operator = refl;
-      name =
-          refl;
+      name = refl;
     }

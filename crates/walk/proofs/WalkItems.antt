@@ -103,8 +103,7 @@ module _ (E : Node → List ℕ → List ℕ → Type 0) (tag : (x : Node) (s r 
         rest = x .rest;
         run = Run.more t (x .run);
         is = ap (Items.text b) (x .is);
-        behind =
-            x .behind;
+        behind = x .behind;
         stop = x .stop;
       }
   texts (Content.remark {i} {s} c d) y =
@@ -115,8 +114,7 @@ module _ (E : Node → List ℕ → List ℕ → Type 0) (tag : (x : Node) (s r 
         run = Run.none;
         is = refl;
         behind = Content.remark c d;
-        stop =
-            comment-stop isText text-no-tag c;
+        stop = comment-stop isText text-no-tag c;
       }
   texts (Content.child {x} {i} {s} {t} e d) y =
       record {
@@ -126,8 +124,7 @@ module _ (E : Node → List ℕ → List ℕ → Type 0) (tag : (x : Node) (s r 
         run = Run.none;
         is = refl;
         behind = Content.child e d;
-        stop =
-            tagged-stop isText text-no-tag (tag x s t e);
+        stop = tagged-stop isText text-no-tag (tag x s t e);
       }
 
   started : (b : ℕ) (i : Items) (w : List ℕ) (i′ : Items) → i ≡ texted w i′ → Items.text b i ≡ texted (b ∷ w) i′

@@ -76,8 +76,7 @@ read f a {s₄ = s₄} {s₅} {r} x m y z u =
       from = c;
       close = k;
       is = attribute-closed f a e q b p c k refl refl refl refl refl refl (l .inner);
-      name =
-          h₁ .word;
+      name = h₁ .word;
       value = h₄ .word;
       behind = l .next;
     }
@@ -135,8 +134,7 @@ module _ (E : Node → List ℕ → List ℕ → Type 0) where
       by-part (partAt f j) refl (part-is f j g z e) (λ k l′ m g′ z′ h′. body-is f n k g′ z′ refl h′)
     where
       by-part : (p : TagPart) → p ≡ partAt f j → PartIs f j l i r p
-          →
-          ((k : ℕ) (l′ : List Attribute) (m : List ℕ) → Attributes l′ (drop k f) m → Tail E i m r → length f < n + k
+          → ((k : ℕ) (l′ : List Attribute) (m : List ℕ) → Attributes l′ (drop k f) m → Tail E i m r → length f < n + k
           → BodyIs f i r (contentFrom f n k)) → BodyIs f i r (contentFrom f (suc n) j)
       by-part (TagPart.Attribute a e c k) q x next =
           let b = part-from f j (TagPart.Attribute a e c k) q in
