@@ -76,7 +76,8 @@ unfoldable pub answerBytes : Outcome → List ℕ
 answerBytes o =
     answerByte (o .answer) ∷ loggingByte (o .engine .logging) ∷ 0 ∷ 0 ∷ 0 ∷ 0 ∷ 0 ∷ 0
     ∷ (bytesOf 8 (endTime (o .engine .logging))
-    ++ (bytesOf 4 (o .counts .recorded) ++ (bytesOf 4 (o .counts .idle) ++ (bytesOf 4 (o .counts .stopped) ++ bytesOf 4 (o .counts .halted)))))
+    ++ (bytesOf 4 (o .counts .recorded) ++ (bytesOf 4 (o .counts .idle)
+    ++ (bytesOf 4 (o .counts .stopped) ++ bytesOf 4 (o .counts .halted)))))
 
 -- an answer written at the front of a buffer; one that has no room for it stays as it was
 abbrev pub withAnswer : Outcome → List ℕ → List ℕ
