@@ -1,19 +1,19 @@
 -- What `convert` does gives what its contract says.
-use Prim.Native.Nat.{ℕ, suc, _≤_}
+use Prim.Native.Nat.{ℕ, _≤_}
 use native.Mathlib.Omega.{arith}
 use mathlib.Core.Path.{_≡_, refl, sym, ap, subst, _∙_}
-use mathlib.Core.Option.{Option, none, some}
-use mathlib.Core.List.{List, [], _∷_, _++_}
-use lib.Dec.{ltb}
+use mathlib.Core.Option.{some, Option·none-ne-some}
+use mathlib.Core.List.{List, [], _∷_, _++_, map, append-assoc}
 use lib.ListN.{length}
-use borrow.Author.Tests.{ne-eqb, lt-ltb, le-ltb}
+use borrow.Author.Tests.{ne-eqb}
 use Rattle.shape.specs.declared.Shape.{Shape}
 use Rattle.shape.specs.declared.Shape.the-variants.{Whole, TooLong, Broken}
 use Rattle.shape.specs.Shape.{Node, WellShaped, shapeRefusal}
-use Rattle.grammar.specs.declared.Compiled.{Compiled}
-use Rattle.grammar.specs.GrammarCode.{compiled}
-use Rattle.grammar.proofs.Ruled.{gives}
-use Rattle.file_rules.specs.Element.{Known, Fault, _at_if_}
+use Rattle.grammar.proofs.Names.{few-names}
+use Rattle.grammar.proofs.Ruled.{becomes}
+use Rattle.loader.specs.Plan.{wordsOf}
+use Rattle.records.specs.Records.{PlanStatement}
+use Rattle.file_rules.specs.Element.{Known, Fault}
 use Rattle.document.specs.declared.Index.{Index}
 use Rattle.file_rules.specs.Document.{knownElements, elementFaults}
 use Rattle.document.specs.DocumentCode.{refusedIndex, indexOf, Indexes}
@@ -25,41 +25,46 @@ use Rattle.tables.specs.declared.rows.Told.{Told}
 use Rattle.tables.specs.RowsCode.{told}
 use Rattle.file_rules.specs.declared.Refusal.{Refusal}
 use Rattle.tables.specs.declared.Telling.{Telling}
-use Rattle.file_rules.specs.Tables.{tablesOf, tableFaults}
+use Rattle.file_rules.specs.Reading.{is}
+use Rattle.file_rules.specs.Tables.{kept, expressionOf, namesOf, tableFaults}
+use Rattle.lists.specs.Lists.{gathered}
+use Rattle.lists.proofs.Cases.{same-pair}
 use Rattle.tables.specs.TablesCode.{tableFault, tabled, Tabled}
 use Rattle.file_rules.specs.RefusalCode.{refusedAt}
 use Rattle.tables.proofs.Laws.{reads-well}
 use Rattle.tables.proofs.Wanted.{firstOf, Reads}
 use Rattle.converter.specs.declared.statements.Composed.{Composed}
 use Rattle.converter.specs.declared.Converted.the-variants as answer
-use Rattle.converter.specs.Converter.{wordsFor, expressionFaults, faults, GivesAll, Converts}
+use Rattle.converter.specs.Converter.{Composes, Judged, Meets, Refuses, Converts}
 use Rattle.converter.specs.StatementsCode.{composed}
 use Rattle.converter.specs.ConverterCode.{sheetOf}
 use Rattle.converter.proofs.Numbers.{element-number, table-number}
-use Rattle.converter.proofs.Lines.{Composes, allLines, composed-is, sheet-is}
+use Rattle.converter.proofs.Lines.{Stops, statementOf, faultsOf, compile-composes, allLines, composed-is, sheet-is}
 
--- what the rules of expressions give, as a function
-abbrev codes : Node → List ℕ → Compiled
-codes x = compiled (tablesOf (knownElements x) .names)
+-- the rules give every statement something, whatever the names
+pub composes-some : (names : List (List ℕ)) (ks : List Known) → (fs : List Fault) × (ss : List PlanStatement) × Composes names ks fs ss
+composes-some names [] = ([], [], Composes.over)
+composes-some names (k ∷ ks) =
+    let b = becomes names (expressionOf k) in
+    let r = composes-some names ks in
+    (_, _, Composes.next k (b .0) (b .1) ks (r .0) (r .1) (b .2) (r .2))
 
-codes-given : (x : Node) → GivesAll x (codes x)
-codes-given x t = gives (tablesOf (knownElements x) .names) t
-
-faults-are : (c : List ℕ → Compiled) (room : ℕ) (x : Node) (es ts cs : List Fault) → elementFaults x ≡ es
-    → tableFaults (knownElements x) ≡ ts → expressionFaults c (knownElements x) ≡ cs
-    → faults c room x ≡ es ++ (ts ++ (cs ++ 13 at length (wordsFor c x) if ltb room (length (wordsFor c x))))
-unfolding faults
-faults-are c room x es ts cs a b d = rw (a, b, d)
+-- a document with faults up to 10 is refused by the first of them
+refuse-early : (s : List ℕ) (room : ℕ) (x : Node) → length s ≤ 32768 → WellShaped s x → (a : Fault) (l : List Fault)
+    → elementFaults x ++ tableFaults (knownElements x) ≡ a ∷ l → Refuses s room (a .number) (a .place)
+refuse-early s room x short w a l e =
+    let r = composes-some (namesOf (knownElements x)) (kept (is "STATEMENT") (knownElements x)) in
+    Refuses.by-fault x (l ++ r .0) (r .1) short w (record {
+      late = r .0;
+      composed = r .2;
+      in-order = ap (λ (fs : List Fault). fs ++ r .0) (sym e) ∙ append-assoc (elementFaults x) (tableFaults (knownElements x)) (r .0);
+    })
 
 -- ---- the fault of the tables
-abbrev numberIn : ℕ → Option (ℕ × ℕ) → ℕ
-numberIn d none = d
-numberIn d (some y) = y .0
-
 shape-number : (a : Shape) (n p : ℕ) → shapeRefusal a ≡ some (n, p) → 1 ≤ n
-shape-number Whole n p e = let h : suc n ≡ n = ap (numberIn (suc n)) e in absurd (omega (arith, h))
-shape-number TooLong n p e = let h : 1 ≡ n = ap (numberIn n) e in omega (arith, h)
-shape-number (Broken q) n p e = let h : 2 ≡ n = ap (numberIn n) e in omega (arith, h)
+shape-number Whole n p e = absurd (Option·none-ne-some (n, p) e)
+shape-number TooLong n p e = omega (arith, same-pair _ refl e .0)
+shape-number (Broken q) n p e = omega (arith, same-pair _ refl e .0)
 
 fault-first : (f : List ℕ) (x : Index) → 1 ≤ x .fault .number → tabled f x .fault ≡ x .fault
 unfolding tabled
@@ -79,41 +84,36 @@ pub record Clear (f : List ℕ) (t : Told) : Type 0 where
   pub reads : Reads f root t
 
 -- ---- a refusal by the tables
-abbrev Refuses : List ℕ → List ℕ → Refusal → Type 0
-Refuses f d r = Converts f d (answer.Refused (r .number) (r .place)) d
+abbrev RefusedBy : List ℕ → List ℕ → Refusal → Type 0
+RefusedBy f d r = Converts f d (answer.Refused (r .number) (r .place)) d
 
 module _ (f : List ℕ) where
   -- by the faults ts of the tables of a document
   refuse-by : (d : List ℕ) (x : Node) → length f ≤ 32768 → WellShaped f x → elementFaults x ≡ [] → (ts : List Fault)
-      → tableFaults (knownElements x) ≡ ts → (firstOf ts .number ≡ 0 → ⊥) → Refuses f d (firstOf ts)
+      → tableFaults (knownElements x) ≡ ts → (firstOf ts .number ≡ 0 → ⊥) → RefusedBy f d (firstOf ts)
   refuse-by d x short w e [] q h = absurd (h refl)
   refuse-by d x short w e (a ∷ l) q h =
-      Converts.faulty x short w (codes x) (codes-given x) a
-      (l ++ (expressionFaults (codes x) (knownElements x)
-      ++ 13 at length (wordsFor (codes x) x) if ltb (length d) (length (wordsFor (codes x) x))))
-      (faults-are (codes x) (length d) x [] (a ∷ l) (expressionFaults (codes x) (knownElements x)) e q refl)
+      Converts.refuses (a .number) (a .place) (refuse-early f (length d) x short w a l (rw (e, q)))
 
-  refuse-at : (d : List ℕ) (x : Index) → Indexes f x → (tabled f x .fault .number ≡ 0 → ⊥) → Refuses f d (tabled f x .fault)
+  refuse-at : (d : List ℕ) (x : Index) → Indexes f x → (tabled f x .fault .number ≡ 0 → ⊥) → RefusedBy f d (tabled f x .fault)
   refuse-at d x (Indexes.shapeless a n p s e) h =
-      subst (Refuses f d) (sym (fault-first f _ (shape-number a n p e))) (Converts.shapeless a n p s e)
+      subst (RefusedBy f d) (sym (fault-first f _ (shape-number a n p e))) (Converts.refuses n p (Refuses.by-shape a s e))
   refuse-at d x (Indexes.faulty y a l short w e) h =
-      subst (Refuses f d) (sym (fault-first f _ (element-number y a l e)))
-      (Converts.faulty y short w (codes y) (codes-given y) a
-      (l ++ (tableFaults (knownElements y) ++ (expressionFaults (codes y) (knownElements y)
-      ++ 13 at length (wordsFor (codes y) y) if ltb (length d) (length (wordsFor (codes y) y)))))
-      (faults-are (codes y) (length d) y (a ∷ l) (tableFaults (knownElements y)) (expressionFaults (codes y) (knownElements y)) e refl
-      refl))
+      subst (RefusedBy f d) (sym (fault-first f _ (element-number y a l e)))
+      (Converts.refuses (a .number) (a .place)
+      (refuse-early f (length d) y short w a (l ++ tableFaults (knownElements y))
+      (ap (λ (fs : List Fault). fs ++ tableFaults (knownElements y)) e)))
   refuse-at d x (Indexes.faultless y short w e) h =
       let q : tabled f (indexOf (knownElements y)) .fault ≡ firstOf (tableFaults (knownElements y)) = fault-then f (knownElements y)
       ∙ reads-well f y short w e .fault in
-      subst (Refuses f d) (sym q)
+      subst (RefusedBy f d) (sym q)
       (refuse-by d y short w e (tableFaults (knownElements y)) refl (λ z. h (ap (λ (r : Refusal). r .number) q ∙ z)))
 
   pub converts-refused : (d : List ℕ) (r : Telling) → Tabled f r → (r .fault .number ≡ 0 → ⊥)
       → Converts f d (answer.Refused (r .fault .number) (r .fault .place)) d
   converts-refused d r t h =
       let q : r .fault ≡ tabled f (t .index) .fault = ap (λ (z : Telling). z .fault) (t .same-tables) in
-      subst (Refuses f d) (sym q) (refuse-at d (t .index) (t .indexes) (λ z. h (ap (λ (y : Refusal). y .number) q ∙ z)))
+      subst (RefusedBy f d) (sym q) (refuse-at d (t .index) (t .indexes) (λ z. h (ap (λ (y : Refusal). y .number) q ∙ z)))
 
   -- ---- no refusal by the tables
   clear-by : (x : Node) → length f ≤ 32768 → WellShaped f x → elementFaults x ≡ [] → (ts : List Fault) → tableFaults (knownElements x) ≡ ts
@@ -145,56 +145,69 @@ module _ (f : List ℕ) (t : Told) (k : Clear f t) (d : List ℕ) (m : Composed)
   abbrev X : Node
   X = k .root
 
+  abbrev codes : List (List ℕ)
+  codes = namesOf (knownElements X)
+
+  abbrev ks : List Known
+  ks = kept (is "STATEMENT") (knownElements X)
+
   abbrev late : List Fault
-  late = 13 at length (wordsFor (codes X) X) if ltb (length d) (length (wordsFor (codes X) X))
+  late = gathered (faultsOf codes) ks
 
-  faults-late : (cs : List Fault) → expressionFaults (codes X) (knownElements X) ≡ cs → faults (codes X) (length d) X ≡ cs ++ late
-  faults-late cs e = faults-are (codes X) (length d) X [] [] cs (k .faultless) (k .tables) e
+  abbrev ss : List PlanStatement
+  ss = map (statementOf codes) ks
 
-  stopped-by : (cs : List Fault) → expressionFaults (codes X) (knownElements X) ≡ cs → Composes cs m (allLines f X t (k .reads))
-      → (m .fault .number ≡ 0 → ⊥) → Converts f d (answer.Refused (m .fault .number) (m .fault .place)) d
+  -- all faults are those of the expressions
+  judged : (cs : List Fault) → late ≡ cs → Judged X cs ss
+  judged cs e =
+      let few : length codes ≤ 32 = subst (λ (l : List (List ℕ)). length l ≤ 32) (k .reads .names) (few-names f _ _) in
+      record { late = late; composed = compile-composes codes few ks; in-order = rw (k .faultless, k .tables) (sym e) }
+
+  stopped-by : (cs : List Fault) → late ≡ cs → Stops cs m (allLines f X t (k .reads)) → (m .fault .number ≡ 0 → ⊥)
+      → Converts f d (answer.Refused (m .fault .number) (m .fault .place)) d
   stopped-by [] e c h = absurd (h (ap (λ (y : Composed). y .fault .number) c))
   stopped-by (a ∷ l) e c h =
-      let g : Converts f d (answer.Refused (a .number) (a .place)) d =
-      Converts.faulty X (k .short) (k .shaped) (codes X) (codes-given X) a (l ++ late) (faults-late (a ∷ l) e) in
-      subst (λ (n : ℕ). Converts f d (answer.Refused n (m .fault .place)) d) (sym (c .0))
-      (subst (λ (p : ℕ). Converts f d (answer.Refused (a .number) p) d) (sym (c .1)) g)
+      let g : Refuses f (length d) (a .number) (a .place) = Refuses.by-fault X l ss (k .short) (k .shaped) (judged (a ∷ l) e) in
+      Converts.refuses (m .fault .number) (m .fault .place)
+      (subst (λ (n : ℕ). Refuses f (length d) n (m .fault .place)) (sym (c .0))
+      (subst (λ (p : ℕ). Refuses f (length d) (a .number) p) (sym (c .1)) g))
 
-  composes-is : Composes (expressionFaults (codes X) (knownElements X)) m (allLines f X t (k .reads))
-  composes-is = rw q (composed-is f X t (k .reads))
+  stops-is : Stops late m (allLines f X t (k .reads))
+  stops-is = rw q (composed-is f X t (k .reads))
 
   pub converts-stopped : (m .fault .number ≡ 0 → ⊥) → Converts f d (answer.Refused (m .fault .number) (m .fault .place)) d
-  converts-stopped h = stopped-by (expressionFaults (codes X) (knownElements X)) refl composes-is h
+  converts-stopped h = stopped-by late refl stops-is h
 
   -- no expression is refused
-  lines-by : (cs : List Fault) → expressionFaults (codes X) (knownElements X) ≡ cs → Composes cs m (allLines f X t (k .reads))
-      → m .fault .number ≡ 0
-      → (expressionFaults (codes X) (knownElements X) ≡ []) × (m .lines ≡ allLines f X t (k .reads))
+  lines-by : (cs : List Fault) → late ≡ cs → Stops cs m (allLines f X t (k .reads)) → m .fault .number ≡ 0
+      → (late ≡ []) × (m .lines ≡ allLines f X t (k .reads))
   lines-by [] e c h = (e, ap (λ (y : Composed). y .lines) c)
   lines-by (a ∷ l) e c h = absurd (omega (arith, c .0, c .2, h))
 
   module _ (h : m .fault .number ≡ 0) (s : Sheet) (e : s ≡ sheetOf t (m .lines)) where
-    composed-lines : (expressionFaults (codes X) (knownElements X) ≡ []) × (m .lines ≡ allLines f X t (k .reads))
-    composed-lines = lines-by (expressionFaults (codes X) (knownElements X)) refl composes-is h
+    composed-lines : (late ≡ []) × (m .lines ≡ allLines f X t (k .reads))
+    composed-lines = lines-by late refl stops-is h
 
-    words-are : sheetWords s ≡ wordsFor (codes X) X
-    words-are = ap sheetWords (e ∙ ap (sheetOf t) (composed-lines .1)) ∙ sheet-is f X t (k .reads)
+    meets : Meets f (sheetWords s)
+    meets = record {
+      document = X;
+      statements = ss;
+      short = k .short;
+      spells = k .shaped;
+      faultless = judged [] (composed-lines .0);
+      words = ap sheetWords (e ∙ ap (sheetOf t) (composed-lines .1)) ∙ sheet-is f X t (k .reads);
+    }
 
-    written-by : (n : ℕ) (b : List ℕ) → Writes (wordsFor (codes X) X) d (Words n) b → Converts f d (answer.Words n) b
-    written-by n b (Writes.fits r) =
-        Converts.converted X (k .short) (k .shaped) (codes X) (codes-given X)
-        (faults-late [] (composed-lines .0) ∙ rw (le-ltb (length d) (length (wordsFor (codes X) X)) r))
+    written-by : (n : ℕ) (b : List ℕ) → Writes (sheetWords s) d (Words n) b → Converts f d (answer.Words n) b
+    written-by n b (Writes.fits r) = Converts.converts (sheetWords s) meets r
 
-    short-by : (n : ℕ) (b : List ℕ) → Writes (wordsFor (codes X) X) d (Short n) b → Converts f d (answer.Refused 13 n) b
-    short-by n b (Writes.short r) =
-        Converts.faulty X (k .short) (k .shaped) (codes X) (codes-given X) (record { number = 13; place = length (wordsFor (codes X) X) })
-        []
-        (faults-late [] (composed-lines .0) ∙ rw (lt-ltb (length d) (length (wordsFor (codes X) X)) r))
+    short-by : (n : ℕ) (b : List ℕ) → Writes (sheetWords s) d (Short n) b → Converts f d (answer.Refused 13 n) b
+    short-by n b (Writes.short r) = Converts.refuses 13 n (Refuses.by-room (sheetWords s) meets r refl refl)
 
     -- w is what `write` answered
     pub converts-written : (w : Written) (n : ℕ) (b : List ℕ) → Writes (sheetWords s) d w b → w ≡ Words n → Converts f d (answer.Words n) b
-    converts-written w n b p g = written-by n b (subst (λ (y : Written). Writes (wordsFor (codes X) X) d y b) g (rw words-are at p))
+    converts-written w n b p g = written-by n b (subst (λ (y : Written). Writes (sheetWords s) d y b) g p)
 
     pub converts-short : (w : Written) (n : ℕ) (b : List ℕ) → Writes (sheetWords s) d w b → w ≡ Short n
         → Converts f d (answer.Refused 13 n) b
-    converts-short w n b p g = short-by n b (subst (λ (y : Written). Writes (wordsFor (codes X) X) d y b) g (rw words-are at p))
+    converts-short w n b p g = short-by n b (subst (λ (y : Written). Writes (sheetWords s) d y b) g p)

@@ -6,7 +6,7 @@ use mathlib.Core.Path.{_≡_, sym, ap, _∙_}
 use mathlib.Core.List.{List, _∷_}
 use lib.ListN.{length, getD, take, drop, length-take, drop-of-length-le}
 use lib.Seq.{drop-cons, length-take-le, getD-take}
-use Rattle.grammar.specs.Lex.{namesIn}
+use Rattle.grammar.specs.TokensCode.{namesIn}
 use Rattle.grammar.specs.declared.Verdict.the-variants.{Good, Broken, Unknown}
 use Rattle.grammar.specs.declared.Compiled.{Compiled}
 use Rattle.writer.specs.declared.Line.{Line}

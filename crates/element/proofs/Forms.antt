@@ -19,7 +19,8 @@ use Rattle.schema.specs.SchemaCode.{kindName, askedFrom, askedOf, requiredIn, f
 use Rattle.file_rules.specs.Element.{Known, goodOf, worthBy, givenValue, given}
 use Rattle.element.specs.ElementCode.{nothingGathered, gatheredList, isKind, isFilter, unpaired, idsCrossed, boundsCrossed}
 use Rattle.file_rules.proofs.ElementLaws.{knows}
-use Rattle.element.proofs.Gathers.{rulesFor, slotOf, neither, slot-test, all-known, given-is, spelled-is, never-given, sized-nothing, sized-list}
+use Rattle.lists.proofs.Parts.{neither}
+use Rattle.element.proofs.Gathers.{rulesFor, slotOf, slot-test, all-known, given-is, spelled-is, never-given, sized-nothing, sized-list}
 use Rattle.element.proofs.Required.{both, lacks-is}
 use Rattle.lists.specs.Lists.{any}
 use Rattle.lists.specs.FlagsCode.{lacksFirst}

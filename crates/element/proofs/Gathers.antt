@@ -26,14 +26,11 @@ use Rattle.element.specs.ElementCode.{nothingGathered, putWorth, unfitte
 use Rattle.element.proofs.Judged.{judged-fit, judged-again, judged-unknown}
 use Rattle.file_rules.proofs.ElementLaws.{knows, asked-bounds, asked-test, asked-once, asked-worth}
 use Rattle.lists.specs.Lists.{any}
+use Rattle.lists.proofs.Parts.{neither}
 
 swap : (p q r : Bool) → (p || (q || r)) ≡ (q || p || r)
 swap true q r = rw (or-comm q true)
 swap false q r = rw (or-comm q false)
-
-pub neither : (t u : Bool) → (t || u) ≡ false → (t ≡ false) × (u ≡ false)
-neither true u e = absurd (true≢false e)
-neither false u e = (refl, e)
 
 module _ (n : List ℕ) (a : Attribute) (l : List Attribute) where
   pub given-here : same (a .name) n ≡ true → given n (a ∷ l) ≡ true
@@ -278,7 +275,7 @@ good-none TriggerName = refl
 good-none Unread = refl
 good-none Flexible = refl
 
-spelled-none : (n : List ℕ) (l : List Attribute) → given n l ≡ false → givenValue n l ≡ []
+pub spelled-none : (n : List ℕ) (l : List Attribute) → given n l ≡ false → givenValue n l ≡ []
 unfolding givenValue given any
 spelled-none n [] e = refl
 spelled-none n (a ∷ l) e = let v = neither (same (a .name) n) (given n l) e in rw (v .0) (spelled-none n l (v .1))

@@ -22,7 +22,8 @@ use Rattle.schema.specs.SchemaCode.{kindName, requiredIn}
 use Rattle.schema.proofs.Laws.{rules-few, required-first, rules-distinct}
 use Rattle.file_rules.specs.Element.{Known, Fault, _at_if_, isBad, isNotCarried, worthBy, givenValue, given, has, valueOf, channelOf, tooMany, misfit, crossed, misworded, ownFaults}
 use Rattle.element.specs.ElementCode.{nothingGathered, gatheredAt, gatheredList, isKind, unpaired, lacking, boundsCrossed, numbered, badText, verdict, ownFault, firstNumber, valueAt}
-use Rattle.element.proofs.Gathers.{rulesFor, slotOf, neither, five-is, bad-is, not-carried-is}
+use Rattle.lists.proofs.Parts.{neither}
+use Rattle.element.proofs.Gathers.{rulesFor, slotOf, five-is, bad-is, not-carried-is}
 use Rattle.element.proofs.Forms.{of, Fit, lacksIn, form-of, odd-is, crossed-is, lack-is, value-at, given-at}
 use Rattle.element.proofs.Texts.{short-law, stray-law}
 use Rattle.element.proofs.Tags.{gathers, spells}
@@ -33,7 +34,7 @@ few : (kind : Kind) → length (rulesFor kind) ≤ 12
 few kind = omega (arith, rules-few kind)
 
 fit : (kind : Kind) (l : List Attribute) → gatheredList kind l nothingGathered .five ≡ false → Fit kind l
-fit kind l e = record { few = few kind; distinct = rules-distinct kind; first = required-first kind; five = e }
+fit kind l e = record { few = few kind; distinct = rules-distinct (kindName kind); first = required-first kind; five = e }
 
 -- ---- the faults of an element
 join : (a b c d : Bool) → (a || b || c || d) ≡ (a || (b || (c || d)))

@@ -22,6 +22,11 @@ pub both : (t u : Bool) → (t && u) ≡ true → (t ≡ true) × (u ≡ true)
 both true u e = (refl, e)
 both false u e = absurd (true≢false (sym e))
 
+-- a name with a rule is not one without
+pub names-apart : (rs : List Rule) (m n : List ℕ) → knows rs m ≡ true → knows rs n ≡ false → same m n ≡ false
+names-apart rs m n k l =
+    by-cases (same m n) (λ t. absurd (true≢false (sym k ∙ (ap (knows rs) (same-equal m n t) ∙ l)))) (λ t. t)
+
 -- no rule is of a required attribute
 none-required : (p : Rule → Bool) (rs : List Rule) → requiredIn rs ≡ 0 → any (λ r. r .required && p r) rs ≡ false
 unfolding any requiredIn
@@ -53,9 +58,7 @@ lacks-is got h (r ∷ rs) i l a f e =
     rw (t, o, drop-held h i (omega arith), here)
     (ap (λ (b : Bool). not (got (bytes (r .name))) || b) (lacks-is got h rs (i + 1) (omega arith) (a′ .1) (f′ .1)
     (λ n k.
-    let other : same n (bytes (r .name)) ≡ false = by-cases (same n (bytes (r .name)))
-    (λ u. absurd (true≢false (sym k ∙ (ap (knows rs) (same-equal n (bytes (r .name)) u) ∙ not-true _ (a′ .0)))))
-    (λ u. u) in
+    let other = names-apart rs n (bytes (r .name)) k (not-true (knows rs (bytes (r .name))) (a′ .0)) in
     sym (ap (λ (s : ℕ). getD h s false) (slot-later r rs n i other)) ∙ e n (knows-later r rs n other ∙ k)))))
     (λ t.
     let z : eqb (requiredIn rs) 0 ≡ true = rw t at (f′ .0) in

@@ -1,16 +1,13 @@
 -- The filters as the loop goes: one after the other. Ties.antt shows it equal to the rules.
-use Prim.Native.Nat.{_/_, _%_, _^_}
 use mathlib.Core.List.{List, [], _∷_}
 use mathlib.Core.Bool.{Bool, true, false, not, _||_, cond}
-use lib.Dec.{eqb}
-use Rattle.records.specs.declared.Filter.{Filter}
 use Rattle.event_rules.specs.declared.Frame.{Frame}
-use Rattle.event_rules.specs.Rules.{isPass, matches}
+use Rattle.event_rules.specs.Rules.{MessageFilter, isPass, matches}
 
 -- what the filters that are left decide where a stop filter matched before, or a pass filter that stands on the channel did not
-unfoldable pub passesFrom : Bool → Bool → Frame → List Filter → Bool
+unfoldable pub passesFrom : Bool → Bool → Frame → List MessageFilter → Bool
 passesFrom stopped barred f [] = cond stopped false (not barred)
 passesFrom stopped barred f (x ∷ xs) =
-    cond (eqb (x .mask / 2 ^ f .channel % 2) 1)
+    cond (x .on (f .channel))
     (cond (isPass (x .effect)) (cond (matches f x) true (passesFrom stopped true f xs)) (passesFrom (stopped || matches f x) barred f xs))
     (passesFrom stopped barred f xs)

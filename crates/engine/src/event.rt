@@ -3,11 +3,12 @@
 // Promises: `run_frame` and `run_tick` answer any words, places, state, counts and event, as the rules of one event say for the plan that is read
 // off there; a refused call leaves state, times and counts as they were. Whether the words are a plan is the loader's.
 ghost use mathlib.Core.Path.{_≡_};
+ghost use mathlib.Core.List.{map};
 ghost use mathlib.Core.Bool.{false, not};
 ghost use Prim.Native.Nat.{_≤_};
 ghost use lib.ListN.{length};
 ghost use Rattle.event_rules.specs.Rules.{Event, frame, tick, passes, triggered, process};
-ghost use Rattle.event_rules.specs.Calls.{full, counted, step, configOf};
+ghost use Rattle.event_rules.specs.Calls.{full, counted, step, filterRule, configOf};
 ghost use Rattle.event_rules.specs.EventCode.{eventOf};
 ghost use Rattle.engine.specs.TriggersCode.{firingsOf, fireAll, noneFired};
 ghost use Rattle.engine.specs.EventCode.{triggersRead, filtersRead, planBy, engineOf, outcomeOf, reachedBy, tickedOr, answeredAt, settledAt, reached};
@@ -140,7 +141,7 @@ fn trigger_event(
 }
 
 fn is_stopped(words: &[u32], lay: Layout, ticks: bool, f: Frame) -> bool
-    ensures { λ r. ⌜ r ≡ not (passes (filtersRead (now (words .entry)) lay) (eventOf ticks f)) ⌝ }
+    ensures { λ r. ⌜ r ≡ not (passes (map filterRule (filtersRead (now (words .entry)) lay)) (eventOf ticks f)) ⌝ }
 {
     if ticks {
         return false;

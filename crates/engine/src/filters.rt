@@ -2,11 +2,13 @@
 //
 // Promises: `passed` is step 3 of the rules of one event, for the filters that any words are read as.
 ghost use mathlib.Core.Path.{_≡_};
+ghost use mathlib.Core.List.{map};
 ghost use Prim.Native.Nat.{_/_, _%_, _^_};
 ghost use lib.Dec.{eqb};
 ghost use Rattle.records.specs.RecordsCode.{filterSize, filterAt};
 ghost use Rattle.loader.specs.ScanCode.{recordsOf};
 ghost use Rattle.event_rules.specs.Rules.{Event, frame, passes};
+ghost use Rattle.event_rules.specs.Calls.{filterRule};
 use crate::rows;
 use event_rules::Frame;
 use records::Effect;
@@ -25,7 +27,7 @@ const STOPPED: bool = false;
 
 // Pass filters first, then stop filters; where none matches, a pass filter on the channel stops the frame.
 pub(crate) fn passed(filters: &[u32], count: u32, f: Frame) -> bool
-    ensures { λ r. ⌜ r ≡ passes (recordsOf filterSize filterAt count (now (filters .entry))) (Event.frame f) ⌝ }
+    ensures { λ r. ⌜ r ≡ passes (map filterRule (recordsOf filterSize filterAt count (now (filters .entry)))) (Event.frame f) ⌝ }
 {
     // whether a stop filter matched so far, and whether a pass filter stands on the channel
     let mut stopped = false;

@@ -1,9 +1,9 @@
 -- No plan in range answers 25: its code gives a value on all states, and no other refusal has that number.
 use Prim.Native.Nat.{ℕ, _<_}
 use mathlib.Core.Path.{_≡_, refl, ap, sym, _∙_}
-use mathlib.Core.List.{List, [], _∷_, map}
+use mathlib.Core.List.{List, [], _∷_, _++_, map}
 use mathlib.Core.Bool.{Bool, true, false, not, _&&_, cond, false≢true, and-false}
-use mathlib.Core.Option.{some}
+use mathlib.Core.Option.{some, Option·none-ne-some}
 use native.Mathlib.Omega.{arith}
 use lib.ListN.{length}
 use lib.Dec.{leb, eqb}
@@ -14,8 +14,8 @@ use Rattle.loader.specs.Plan.{Plan, statementIn, inRange}
 use Rattle.event_rules.specs.Types.{Logging, Engine, Counts, Answer, Outcome}
 use Rattle.event_rules.specs.declared.Answer.the-variants as answers
 use Rattle.event_rules.specs.Rules.{Config, Event, frame, tick, Result, gives, faults, states, evaluated, acted, triggered, process}
-use Rattle.event_rules.specs.Calls.{late, outOfRange, full, eventRefusal, refused, closed, step, statementOf, configOf, Answers, by-plan, no-plan}
-use Rattle.event_rules.specs.History.{isRefusal}
+use Rattle.event_rules.specs.Calls.{late, outOfRange, full, eventRefusal, answerRefusal, refused, closed, step, statementOf, configOf, Answers, by-plan, no-plan}
+use Rattle.event_rules.specs.History.{outcomes}
 use Rattle.event_rules.proofs.Outcomes.{not-refusal, process-cases, ProcessGives, given, fails, process-gives}
 use Rattle.lists.specs.Lists.{all}
 
@@ -83,11 +83,24 @@ module _ (p : Plan) (ok : inRange p ≡ true) (en : Engine) where
     where
       go : (b : Bool) {r : Result} → ProcessGives e r → (r ≡ faults → ⊥)
           → cond b (closed en k r) (refused (eventRefusal (configOf p) en k e) en k) .answer ≡ answers.Refused 25 → ⊥
-      go true (given w after) runs q = false≢true (sym (not-refusal e w) ∙ ap isRefusal q)
+      go true (given w after) runs q = Option·none-ne-some (25, 0) (sym (not-refusal e w) ∙ ap answerRefusal q)
       go true fails runs q = runs refl
       go false g runs q = let same : eventRefusal (configOf p) en k e ≡ 25 = cc in omega (arith, refusal-below-25 (configOf p) en k e)
 
--- so no event call answers 25
+-- so no history of such a plan has 25 among its answers
+pub history-never-25 : (p : Plan) → inRange p ≡ true
+    → (en : Engine) (k : Counts) (es : List Event) (before : List Outcome) (o : Outcome) (behind : List Outcome)
+    → outcomes (configOf p) en k es ≡ before ++ (o ∷ behind) → o .answer ≡ answers.Refused 25 → ⊥
+unfolding outcomes
+history-never-25 p ok en k [] [] o behind h q = let z : _≡_ {A = ℕ} 0 1 = cc in omega arith
+history-never-25 p ok en k [] (b ∷ before) o behind h q = let z : _≡_ {A = ℕ} 0 1 = cc in omega arith
+history-never-25 p ok en k (e ∷ es) [] o behind h q =
+    let same : step (configOf p) en k e ≡ o = cc in
+    never-25 p ok en k e (ap (λ (x : Outcome). x .answer) same ∙ q)
+history-never-25 p ok en k (e ∷ es) (b ∷ before) o behind h q =
+    history-never-25 p ok (step (configOf p) en k e .engine) (step (configOf p) en k e .counts) es before o behind (cc) q
+
+-- and no event call answers 25
 pub call-never-25 : {ws : List ℕ} {en : Engine} {k : Counts} {e : Event} {o : Outcome} → Answers ws en k e o
     → o .answer ≡ answers.Refused 25 → ⊥
 call-never-25 {ws} {en} {k} {e} (by-plan p) q = never-25 (p .plan) (p .in-range) en k e q

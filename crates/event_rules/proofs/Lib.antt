@@ -3,3 +3,4 @@ pub mod Outcomes
 pub mod Faults
 pub mod Checks
 pub mod HistoryLaws
+pub mod Filters

@@ -8,17 +8,20 @@ use lib.Dec.{eqb}
 use Rattle.event_rules.specs.Types.{Logging, Off, On, Ending, EndingCompletely, Halted, Engine, Counts, Answer, Outcome}
 use Rattle.event_rules.specs.declared.Answer.the-variants as answers
 use Rattle.event_rules.specs.Rules.{Config, Event, frame, tick, timeOf, answering, isHalted, endedBy, passes, states, evaluated, recordedOrIdle, Result, gives, faults, acted, triggered, answered, process}
-use Rattle.event_rules.specs.Calls.{noCounts, eventRefusal, refused, closed, step}
-use Rattle.event_rules.specs.History.{Which, recorded, idle, stopped, halted, isRefusal}
+use Rattle.event_rules.specs.Calls.{noCounts, eventRefusal, answerRefusal, refused, closed, step}
 
--- the answer that a count counts
-abbrev pub answerOf : Which → Answer
+-- one of the four counts
+pub data Count : Type 0 where
+  recorded idle stopped halted : Count
+
+-- the answer that it counts
+abbrev pub answerOf : Count → Answer
 answerOf recorded = answers.Recorded
 answerOf idle = answers.Idle
 answerOf stopped = answers.Stopped
 answerOf halted = answers.Halted
 
-pub not-refusal : (e : Event) (w : Which) → isRefusal (answering e (answerOf w)) ≡ false
+pub not-refusal : (e : Event) (w : Count) → answerRefusal (answering e (answerOf w)) ≡ none
 not-refusal (frame f) recorded = refl
 not-refusal (frame f) idle = refl
 not-refusal (frame f) stopped = refl
@@ -27,7 +30,7 @@ not-refusal (tick u) w = refl
 
 -- an event that is not refused goes no further, with one of the four answers, or comes to the triggers
 module _ (P : Result → Type 0) (c : Config) (en : Engine) (e : Event) where
-  pub process-cases : ((l : Logging) (w : Which) → P (answered en l e (answerOf w))) → ((l : Logging) → P (triggered c en l e))
+  pub process-cases : ((l : Logging) (w : Count) → P (answered en l e (answerOf w))) → ((l : Logging) → P (triggered c en l e))
       → P (process c en e)
   unfolding process
   process-cases stays comes =
@@ -44,13 +47,13 @@ module _ (P : Result → Type 0) (c : Config) (en : Engine) (e : Event) where
 
 -- its result: such an answer, a tick's being Ticked, or a fault
 pub data ProcessGives (e : Event) : Result → Type 0 where
-  given : (w : Which) (after : Engine) → ProcessGives e (gives (answering e (answerOf w)) after)
+  given : (w : Count) (after : Engine) → ProcessGives e (gives (answering e (answerOf w)) after)
   fails : ProcessGives e faults
 
 -- and its outcome
 pub data StepGives (en : Engine) (k : Counts) (e : Event) : Outcome → Type 0 where
   refuses : (n : ℕ) → StepGives en k e (refused n en k)
-  accepts : (w : Which) (after : Engine) → StepGives en k e (closed en k (gives (answering e (answerOf w)) after))
+  accepts : (w : Count) (after : Engine) → StepGives en k e (closed en k (gives (answering e (answerOf w)) after))
 
 module _ (c : Config) (en : Engine) (e : Event) where
   settled-gives : (after : Engine) → ProcessGives e (gives (answering e (recordedOrIdle (after .logging))) after)

@@ -1,5 +1,5 @@
 -- An event call: its refusals, its counts, and what a plan lent to it gives ("Refusal numbers" 20 to 25 of paper 01).
-use Prim.Native.Nat.{ℕ, _+_}
+use Prim.Native.Nat.{ℕ, _+_, _/_, _%_, _^_}
 use mathlib.Core.List.{List, map}
 use mathlib.Core.Bool.{Bool, false, not, _&&_, _||_, cond}
 use mathlib.Core.Option.{Option, none, some}
@@ -9,9 +9,9 @@ use Rattle.code.specs.Code.{valueOn}
 use Rattle.records.specs.Records as plans
 use Rattle.records.specs.Records.{idTop, dlcTop}
 use Rattle.loader.specs.Plan.{Plan, PlanOf}
-use Rattle.event_rules.specs.Types.{Frame, Off, Engine, Counts, Answer, Outcome}
+use Rattle.event_rules.specs.Types.{Filter, Frame, Off, Engine, Counts, Answer, Outcome}
 use Rattle.event_rules.specs.declared.Answer.the-variants as answers
-use Rattle.event_rules.specs.Rules.{Statement, Config, Event, frame, tick, Result, gives, faults, process}
+use Rattle.event_rules.specs.Rules.{Statement, MessageFilter, Config, Event, frame, tick, Result, gives, faults, process}
 
 -- Fresh: Off, nothing fired, all expressions false, counts 0, last time 0.
 abbrev pub fresh : Engine
@@ -75,13 +75,24 @@ step c en k e = cond (eqb (eventRefusal c en k e) 0) (closed en k (process c en 
 abbrev pub statementOf : plans.PlanStatement → Statement
 statementOf s = record { post = s .post; actions = s .actions; holds = λ states. valueOn states (s .code) }
 
+-- "sum of 2^channel", "dlc lower, dlc upper"
+abbrev pub filterRule : Filter → MessageFilter
+filterRule x = record {
+  effect = x .effect;
+  on = λ channel. eqb (x .mask / 2 ^ channel % 2) 1;
+  ext = x .ext;
+  lower = x .lower;
+  upper = x .upper;
+  covers = λ dlc. leb (x .shortest) dlc && leb dlc (x .longest);
+}
+
 abbrev pub configOf : Plan → Config
 configOf p =
     record {
       channels = p .channels;
       logAll = p .logAll;
       triggers = p .triggers;
-      filters = p .filters;
+      filters = map filterRule (p .filters);
       statements = map statementOf (p .statements);
     }
 

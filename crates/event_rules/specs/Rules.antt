@@ -1,12 +1,12 @@
 -- "One event" of paper 01: its rules over a configuration, in its order and words. A plan gives one configuration, a file's own tables
 -- another.
-use Prim.Native.Nat.{ℕ, _+_, _*_, _/_, _%_, _^_}
+use Prim.Native.Nat.{ℕ, _+_, _*_}
 use mathlib.Core.List.{List, [], _∷_, _++_, zipWith}
 use mathlib.Core.Bool.{Bool, true, false, not, _&&_, _||_, cond, Bool·beq}
 use mathlib.Core.Option.{Option, none, some}
 use lib.ListN.{length, drop}
 use lib.Dec.{leb, ltb, eqb}
-use Rattle.event_rules.specs.Types.{Value, Is, Fault, Cause, Id, Length, Error, Startup, Timeout, Forever, Ms, Trigger, Effect, Pass, Stop, Filter, Action, StartLog, StopLog, StopLogCompletely, Frame, Logging, Off, On, Ending, EndingCompletely, Halted, Firing, Engine, Answer}
+use Rattle.event_rules.specs.Types.{Value, Is, Fault, Cause, Id, Length, Error, Startup, Timeout, Forever, Ms, Trigger, Effect, Pass, Stop, Action, StartLog, StopLog, StopLogCompletely, Frame, Logging, Off, On, Ending, EndingCompletely, Halted, Firing, Engine, Answer}
 use Rattle.event_rules.specs.declared.Answer.the-variants as answers
 
 -- `holds` evaluates the statement's expression on the triggers' states
@@ -15,11 +15,20 @@ pub record Statement : Type 0 where
   pub actions : List Action
   pub holds : List Bool → Value
 
+-- A message filter: the channels it is on and the length codes it covers are told by predicates.
+pub record MessageFilter : Type 0 where
+  pub effect : Effect
+  pub on : ℕ → Bool
+  pub ext : Bool
+  pub lower : ℕ
+  pub upper : ℕ
+  pub covers : ℕ → Bool
+
 pub record Config : Type 0 where
   pub channels : ℕ
   pub logAll : Bool
   pub triggers : List Trigger
-  pub filters : List Filter
+  pub filters : List MessageFilter
   pub statements : List Statement
 
 -- Events: a frame (channel, time in µs, error, remote, ext, id, dlc, data) or a tick (time).
@@ -53,34 +62,31 @@ endedBy u (EndingCompletely e) = cond (leb e u) Halted (EndingCompletely e)
 endedBy u Halted = Halted
 
 -- 3. A message filter matches non-error frames of its ext with id and dlc in range.
-unfoldable pub matches : Frame → Filter → Bool
-matches f x =
-    not (f .error) && Bool·beq (x .ext) (f .ext) && leb (x .lower) (f .id) && leb (f .id) (x .upper) && leb (x .shortest) (f .dlc)
-    && leb (f .dlc) (x .longest)
+unfoldable pub matches : Frame → MessageFilter → Bool
+matches f x = not (f .error) && Bool·beq (x .ext) (f .ext) && leb (x .lower) (f .id) && leb (f .id) (x .upper) && x .covers (f .dlc)
 
 abbrev pub isPass : Effect → Bool
 isPass Pass = true
 isPass Stop = false
 
 -- the filters on a channel, in order: the pass filters or the stop filters
-unfoldable pub filtersOn : Bool → ℕ → List Filter → List Filter
+unfoldable pub filtersOn : Bool → ℕ → List MessageFilter → List MessageFilter
 filtersOn pass channel [] = []
 filtersOn pass channel (x ∷ xs) =
-    cond (Bool·beq (isPass (x .effect)) pass && eqb (x .mask / 2 ^ channel % 2) 1) (x ∷ filtersOn pass channel xs)
-    (filtersOn pass channel xs)
+    cond (Bool·beq (isPass (x .effect)) pass && x .on channel) (x ∷ filtersOn pass channel xs) (filtersOn pass channel xs)
 
-unfoldable pub firstMatch : Frame → List Filter → Option Effect
+unfoldable pub firstMatch : Frame → List MessageFilter → Option Effect
 firstMatch f [] = none
 firstMatch f (x ∷ xs) = cond (matches f x) (some (x .effect)) (firstMatch f xs)
 
 -- No match: stopped if the channel has a pass filter, else passed.
-abbrev pub decides : Option Effect → List Filter → Bool
+abbrev pub decides : Option Effect → List MessageFilter → Bool
 decides (some e) passing = isPass e
 decides none [] = true
 decides none (x ∷ passing) = false
 
 -- Filter a frame: pass filters on its channel in order, then stop filters; the first match decides.
-unfoldable pub passes : List Filter → Event → Bool
+unfoldable pub passes : List MessageFilter → Event → Bool
 passes xs (tick u) = true
 passes xs (frame f) =
     decides (firstMatch f (filtersOn true (f .channel) xs ++ filtersOn false (f .channel) xs)) (filtersOn true (f .channel) xs)

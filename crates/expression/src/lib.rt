@@ -8,10 +8,9 @@ ghost use mathlib.Core.Path.{_≡_};
 ghost use mathlib.Core.List.{map};
 ghost use Prim.Native.Nat.{_≤_};
 ghost use lib.ListN.{length, drop};
-ghost use Rattle.grammar.specs.Lex.{namesIn};
 ghost use Rattle.grammar.specs.Tree.{or, and, code, coded};
-ghost use Rattle.grammar.specs.Outcome.{tokenOf, noWords};
-ghost use Rattle.grammar.specs.GrammarCode.{parseChain, parseOperand, bracketAt, allNamed, compiledFrom, compiled, Agrees};
+ghost use Rattle.grammar.specs.TokensCode.{namesIn, numberedToken};
+ghost use Rattle.grammar.specs.GrammarCode.{parseChain, parseOperand, bracketAt, allNamed, noWords, compiledFrom, compiled, Agrees};
 
 pub mod tokens;
 
@@ -39,7 +38,7 @@ const DEPTH: usize = 8;
 // Operands parted by OR.
 fn read_or(toks: &[u32], at: usize, depth: usize, out: &mut [u32], n: usize) -> Got
     requires { ⌜ (at ≤ length (now toks)) × (n ≤ at) × (length (now toks) ≤ length (now out)) ⌝ }
-    ensures { λ r. ⌜ Agrees code (now (toks .entry)) at n (now (out .entry)) (now (out .exit)) (parseChain or depth (map tokenOf (drop at (now (toks .entry))))) r ⌝ }
+    ensures { λ r. ⌜ Agrees (code (λ i. i)) (now (toks .entry)) at n (now (out .entry)) (now (out .exit)) (parseChain or depth (map numberedToken (drop at (now (toks .entry))))) r ⌝ }
 {
     let Got::At(first, words) = read_and(toks, at, depth, out, n) else {
         return Got::Fault;
@@ -63,7 +62,7 @@ fn read_or(toks: &[u32], at: usize, depth: usize, out: &mut [u32], n: usize) -> 
 // Operands parted by AND.
 fn read_and(toks: &[u32], at: usize, depth: usize, out: &mut [u32], n: usize) -> Got
     requires { ⌜ (at ≤ length (now toks)) × (n ≤ at) × (length (now toks) ≤ length (now out)) ⌝ }
-    ensures { λ r. ⌜ Agrees code (now (toks .entry)) at n (now (out .entry)) (now (out .exit)) (parseChain and depth (map tokenOf (drop at (now (toks .entry))))) r ⌝ }
+    ensures { λ r. ⌜ Agrees (code (λ i. i)) (now (toks .entry)) at n (now (out .entry)) (now (out .exit)) (parseChain and depth (map numberedToken (drop at (now (toks .entry))))) r ⌝ }
 {
     let Got::At(first, words) = read_not(toks, at, depth, out, n) else {
         return Got::Fault;
@@ -87,7 +86,7 @@ fn read_and(toks: &[u32], at: usize, depth: usize, out: &mut [u32], n: usize) ->
 // NOT and its operand, a word, or an expression in brackets.
 fn read_not(toks: &[u32], at: usize, depth: usize, out: &mut [u32], n: usize) -> Got
     requires { ⌜ (at ≤ length (now toks)) × (n ≤ at) × (length (now toks) ≤ length (now out)) ⌝ }
-    ensures { λ r. ⌜ Agrees coded (now (toks .entry)) at n (now (out .entry)) (now (out .exit)) (parseOperand and depth (map tokenOf (drop at (now (toks .entry))))) r ⌝ }
+    ensures { λ r. ⌜ Agrees (coded (λ i. i)) (now (toks .entry)) at n (now (out .entry)) (now (out .exit)) (parseOperand and depth (map numberedToken (drop at (now (toks .entry))))) r ⌝ }
 {
     if toks.len() <= at {
         return Got::Fault;
@@ -119,7 +118,7 @@ fn read_not(toks: &[u32], at: usize, depth: usize, out: &mut [u32], n: usize) ->
 // What stands behind an opening bracket, and the closing one.
 fn read_bracket(toks: &[u32], at: usize, depth: usize, out: &mut [u32], n: usize) -> Got
     requires { ⌜ (at ≤ length (now toks)) × (n ≤ at) × (length (now toks) ≤ length (now out)) ⌝ }
-    ensures { λ r. ⌜ Agrees coded (now (toks .entry)) at n (now (out .entry)) (now (out .exit)) (bracketAt (parseChain or) depth (map tokenOf (drop at (now (toks .entry))))) r ⌝ }
+    ensures { λ r. ⌜ Agrees (coded (λ i. i)) (now (toks .entry)) at n (now (out .entry)) (now (out .exit)) (bracketAt (parseChain or) depth (map numberedToken (drop at (now (toks .entry))))) r ⌝ }
 {
     if depth == 0 {
         return Got::Fault;

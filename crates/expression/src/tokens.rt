@@ -1,12 +1,12 @@
 // The tokens of an expression's text, as numbers: 0 to 31 is a trigger, 32 AND, 33 OR, 34 NOT, 35 and 36 the brackets, 37 a word that names no trigger.
 //
-// Promises: `tokenise` answers every input, by value and to the last word, as crates/grammar/specs/Lex.antt says it. It knows no grammar.
+// Promises: `tokenise` answers every input, by value and to the last word: the tokens are those of crates/grammar/specs/Lex.antt. It knows no grammar.
 ghost use mathlib.Core.Path.{_≡_};
 ghost use Prim.Native.Nat.{_<_};
 ghost use lib.ListN.{length, take, drop};
 ghost use Rattle.text.specs.Texts.{same};
-ghost use Rattle.grammar.specs.Lex.{word, namesIn, find, numberOf};
-ghost use Rattle.grammar.specs.TokensCode.{LexemeAt, lexed, unfitTokens};
+ghost use Rattle.grammar.specs.Lex.{tokenOf};
+ghost use Rattle.grammar.specs.TokensCode.{namesIn, find, numberOf, LexemeAt, lexed, unfitTokens};
 use grammar::Lexed;
 use grammar::Lexeme;
 use grammar::MOST;
@@ -54,7 +54,7 @@ fn find_name(word: &[u8], file: &[u8], starts: &[usize], ends: &[usize]) -> u32
 
 // The number of a word.
 fn word_number(w: &[u8], file: &[u8], starts: &[usize], ends: &[usize]) -> u32
-    ensures { λ r. ⌜ r ≡ numberOf (namesIn (now (file .entry)) (now (starts .entry)) (now (ends .entry))) (word (now (w .entry))) ⌝ }
+    ensures { λ r. ⌜ r ≡ numberOf (namesIn (now (file .entry)) (now (starts .entry)) (now (ends .entry))) (tokenOf (now (w .entry))) ⌝ }
 {
     if texts::same_text(w, b"AND") {
         return 32;

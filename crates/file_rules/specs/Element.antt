@@ -1,14 +1,18 @@
--- Paper 01, "Values" and "Refusal numbers": a known element, its values, and its own faults.
+-- Paper 01, "Values" and "Refusal numbers": a known element, its values, its own faults, and what its numbers are read from.
 use Prim.Native.Nat.{ℕ}
 use Prim.Native.String.{String}
+use mathlib.Core.Path.{_≡_}
+use mathlib.Core.Logic.{_⊎_}
 use mathlib.Core.List.{List, [], _∷_, _++_}
 use mathlib.Core.Bool.{Bool, true, false, not, cond, _&&_, _||_}
 use lib.Dec.{leb, ltb, eqb}
 use lib.ListN.{length}
 use Rattle.text.specs.Texts.{bytes, same}
+use Rattle.values.specs.declared.Sort.{Sort}
+use Rattle.values.specs.declared.Sort.the-variants.{Numeric, Timeout, YesNo, Protocol, TriggerName, Unread, Flexible}
 use Rattle.values.specs.declared.Worth.{Worth}
 use Rattle.values.specs.declared.Worth.the-variants.{Good, Bad, NotCarried}
-use Rattle.values.specs.Values.{worthOf}
+use Rattle.values.specs.Values.{worthOf, IsNumber}
 use Rattle.shape.specs.Shape.{Attribute, Items}
 use Rattle.shape.specs.Text.{joined, trimmed}
 use Rattle.schema.specs.declared.Times.the-variants.{Once, OneTo, UpTo}
@@ -112,3 +116,18 @@ ownFaults k =
     ++ (5 at k .place if misfit k
     ++ (6 at k .place if (any (λ a. isBad (worthBy (rulesOf (k .name)) a)) (k .attributes) || crossed k || misworded k)
     ++ 7 at k .place if any (λ a. isNotCarried (worthBy (rulesOf (k .name)) a)) (k .attributes))))
+
+-- ---- "No mark inside a number is ever skipped"
+-- where the sort asks for a number, v is that of the whole value s; "Only a timeout may also be `-1`"
+unfoldable pub WholeBy : Sort → List ℕ → ℕ → Type 0
+WholeBy (Numeric lo hi most) s v = IsNumber s v
+WholeBy Timeout s v = (same s (bytes "-1") ≡ true) ⊎ IsNumber s v
+WholeBy (YesNo most) s v = Unit {0}
+WholeBy Protocol s v = Unit {0}
+WholeBy TriggerName s v = Unit {0}
+WholeBy Unread s v = Unit {0}
+WholeBy Flexible s v = Unit {0}
+
+-- the attribute with the rule r, where k gives it
+unfoldable pub ReadWhole : Known → Rule → Type 0
+ReadWhole k r = has k (r .name) ≡ true → WholeBy (r .sort) (givenValue (bytes (r .name)) (k .attributes)) (valueOf k (r .name))

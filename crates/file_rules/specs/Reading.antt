@@ -1,4 +1,4 @@
--- Paper 01, "Values" and "The plan": what one element says.
+-- Paper 01, "Values" and "The plan": what one element says, where it has no fault.
 use Prim.Native.Nat.{ℕ}
 use Prim.Native.String.{String}
 use mathlib.Core.Bool.{Bool, cond}
@@ -12,41 +12,22 @@ use Rattle.records.specs.declared.Filter.{Filter}
 use Rattle.records.specs.declared.Action.{Action}
 use Rattle.records.specs.declared.Action.the-variants.{StartLog, StopLog, StopLogCompletely}
 use Rattle.records.specs.Records.{dlcTop}
-use Rattle.file_rules.specs.Element.{Known, valueOf, has}
+use Rattle.file_rules.specs.Element.{Known, givenValue, valueOf, has}
 
 abbrev pub is : String → Known → Bool
 is n k = same (k .name) (bytes n)
 
--- "PARAMETERS: channel 0 to 4; bitrate ..; tseg1, tseg2, sjw ..; silent YES/NO."
-pub record Bus : Type 0 where
-  pub channel : ℕ
-  pub bitrate : ℕ
-  pub tseg1 : ℕ
-  pub tseg2 : ℕ
-  pub sjw : ℕ
-  pub silent : Bool
-
-unfoldable pub busOf : Known → Bus
-busOf k = record {
-  channel = valueOf k "channel";
-  bitrate = valueOf k "bitrate";
-  tseg1 = valueOf k "tseg1";
-  tseg2 = valueOf k "tseg2";
-  sjw = valueOf k "sjw";
-  silent = eqb (valueOf k "silent") 1;
-}
-
--- a trigger; its timeout "-1 as 4,294,967,295"
+-- a trigger; a timeout of `-1` lasts forever
 unfoldable pub triggerOf : Known → Trigger
 triggerOf k = record {
   cause =
       cond (is "TRIGGER_MSG_ID" k) (Id (valueOf k "channel") (eqb (valueOf k "can_ext") 1) (valueOf k "msgid_min") (valueOf k "msgid"))
       (cond (is "TRIGGER_MSG_DLC" k) (Length (valueOf k "channel") (valueOf k "dlc_min") (valueOf k "dlc"))
       (cond (is "TRIGGER_MSG_ERROR_FRAME" k) (Error (valueOf k "channel")) Startup));
-  timeout = cond (eqb (valueOf k "timeout") 4294967295) Forever (Ms (valueOf k "timeout"));
+  timeout = cond (same (givenValue (bytes "timeout") (k .attributes)) (bytes "-1")) Forever (Ms (valueOf k "timeout"));
 }
 
--- a filter, but for its channels; "dlc lower, dlc upper (0 and 8 if absent)"
+-- a filter's record, but for its channels; "dlc lower, dlc upper (0 and 8 if absent)"
 unfoldable pub filterOf : ℕ → Known → Filter
 filterOf channels k = record {
   effect = cond (is "MESSAGE_PASS" k) Pass Stop;
@@ -54,7 +35,7 @@ filterOf channels k = record {
   ext = eqb (valueOf k "can_ext") 1;
   lower = valueOf k "msgid_min";
   upper = valueOf k "msgid";
-  shortest = valueOf k "dlc_min";
+  shortest = cond (has k "dlc_min") (valueOf k "dlc_min") 0;
   longest = cond (has k "dlc") (valueOf k "dlc") dlcTop;
 }
 

@@ -1,18 +1,18 @@
 -- The checks by hand of paper 01 on expressions: one table under one theorem, from quoted texts.
 use Prim.Native.Nat.{ℕ}
 use Prim.Native.String.{String}
-use mathlib.Core.Path.{_≡_, refl}
+use native.Mathlib.Omega.{arith}
 use mathlib.Core.Option.{Option, none, some}
 use mathlib.Core.List.{List, [], _∷_}
 use lib.ListN.{take}
 use Rattle.text.specs.Texts.{bytes, same}
 use Rattle.text.specs.Kinds.{isBlank, isStart, isDigit, isName}
 use Rattle.code.specs.Code.{wordOf}
-use Rattle.grammar.specs.Lex.{find, numberOf}
-use Rattle.grammar.specs.TokensCode.{lex, numbers}
+use Rattle.grammar.specs.TokensCode.{lexFrom, lex, find, numberOf, numberedToken, numbers}
 use Rattle.grammar.specs.Tree.{code}
-use Rattle.grammar.specs.Outcome.{tokenOf, verdictRefusal}
-use Rattle.grammar.specs.GrammarCode.{readChain, parseChain, allNamed, compiledFrom, compiled}
+use Rattle.grammar.specs.Outcome.{Becomes}
+use Rattle.grammar.specs.GrammarCode.{readChain, parseChain, allNamed, verdictRefusal, compiledFrom, compiled}
+use Rattle.grammar.proofs.Ruled.{compiled-becomes}
 
 -- a text, its refusal if it has one, and its words
 pub record Check : Type 0 where
@@ -37,18 +37,21 @@ table =
 
 unfoldable pub Holds : List Check → Type 0
 Holds [] = Unit {0}
-Holds (c ∷ cs) =
-    (verdictRefusal (compiled abc (bytes (c .text)) .verdict) ≡ c .refused)
-    × (take (compiled abc (bytes (c .text)) .count) (compiled abc (bytes (c .text)) .words) ≡ c .words)
-    × Holds cs
+Holds (c ∷ cs) = Becomes abc (bytes (c .text)) (c .refused) (c .words) × Holds cs
+
+-- what becomes of a text is what `compile` answers, which is computed
+given : (text : List ℕ)
+    → Becomes abc text (verdictRefusal (compiled abc text .verdict)) (take (compiled abc text .count) (compiled abc text .words))
+unfolding abc
+given text = compiled-becomes abc text (omega arith)
 
 pub checks : Holds table
-unfolding Holds table abc bytes same isBlank isStart isDigit isName find numberOf lex numbers tokenOf compiled compiledFrom parseChain
-    readChain allNamed code wordOf
-checks = (refl, refl, (refl, refl, (refl, refl, (refl, refl, (refl, refl, (refl, refl, (refl, refl, tt)))))))
+unfolding Holds table abc bytes same isBlank isStart isDigit isName find numberOf numberedToken lexFrom lex numbers compiled compiledFrom
+    parseChain readChain allNamed code wordOf
+checks = (given _, (given _, (given _, (given _, (given _, (given _, (given _, tt)))))))
 
 -- "equal operators group from the left": the first OR stands before the third operand
-pub from-the-left : take (compiled abc (bytes "a OR b OR c") .count) (compiled abc (bytes "a OR b OR c") .words) ≡ 0 ∷ 1 ∷ 33 ∷ 2 ∷ 33 ∷ []
-unfolding abc bytes same isBlank isStart isDigit isName find numberOf lex numbers tokenOf compiled compiledFrom parseChain readChain
-    allNamed code wordOf
-from-the-left = refl
+pub from-the-left : Becomes abc (bytes "a OR b OR c") none (0 ∷ 1 ∷ 33 ∷ 2 ∷ 33 ∷ [])
+unfolding abc bytes same isBlank isStart isDigit isName find numberOf numberedToken lexFrom lex numbers compiled compiledFrom parseChain
+    readChain allNamed code wordOf
+from-the-left = given _

@@ -5,7 +5,9 @@ pub mod Machine
 mod Sound
 mod Fuel
 pub mod Complete
+pub mod Maps
 pub mod Ruled
+pub mod Loads
 pub mod Checks
 pub mod Laws
 pub mod Whole

@@ -15,61 +15,66 @@ abbrev pub spare : Operator → ℕ
 spare or = 3
 spare and = 2
 
-module _ (room : ℕ) (v : ℕ → Bool) where
-  run-joiner : (b : Operator) (c : List Op) (x y : Bool) (st : List Bool)
-      → runOps room v (joiner b ∷ c) (y ∷ (x ∷ st)) ≡ runOps room v c (joins b x y ∷ st)
-  unfolding runOps stepOp
-  run-joiner or c x y st = refl
-  run-joiner and c x y st = refl
+run-joiner : (room : ℕ) (v : ℕ → Bool) (b : Operator) (c : List Op) (x y : Bool) (st : List Bool)
+    → runOps room v (joiner b ∷ c) (y ∷ (x ∷ st)) ≡ runOps room v c (joins b x y ∷ st)
+unfolding runOps stepOp
+run-joiner room v or c x y st = refl
+run-joiner room v and c x y st = refl
 
+-- where a name's number is `num`, and v has the states by their numbers
+module _ {N : Type 0} (num : N → ℕ) (room : ℕ) (v : ℕ → Bool) where
   mutual
     unfolding code mean depth runOps stepOp
 
-    pub run-chain : {b : Operator} (e : Chain b) (c : List Op) (st : List Bool) → length st + 2 * depth e + spare b ≤ room
-        → runOps room v (code e ++ c) st ≡ runOps room v c (mean e v ∷ st)
+    pub run-chain : {b : Operator} (e : Chain N b) (c : List Op) (st : List Bool) → length st + 2 * depth e + spare b ≤ room
+        → runOps room v (code num e ++ c) st ≡ runOps room v c (mean e (λ w. v (num w)) ∷ st)
     run-chain (only x) c st h = run-operand x c st (omega arith)
     run-chain {b} (join e x) c st h =
+        let m = mean e (λ w. v (num w)) in
         simp append-assoc
-        (run-chain e (coded x ++ (joiner b ∷ c)) st (omega arith) ∙ run-operand x (joiner b ∷ c) (mean e v ∷ st) (omega arith)
-        ∙ run-joiner b c (mean e v) (means x v) st)
+        (run-chain e (coded num x ++ (joiner b ∷ c)) st (omega arith) ∙ run-operand x (joiner b ∷ c) (m ∷ st) (omega arith)
+        ∙ run-joiner room v b c m (means x (λ w. v (num w))) st)
 
-    run-operand : {b : Operator} (x : Operand b) (c : List Op) (st : List Bool) → length st + 2 * deep x + spare b ≤ room + 1
-        → runOps room v (coded x ++ c) st ≡ runOps room v c (means x v ∷ st)
+    run-operand : {b : Operator} (x : Operand N b) (c : List Op) (st : List Bool) → length st + 2 * deep x + spare b ≤ room + 1
+        → runOps room v (coded num x ++ c) st ≡ runOps room v c (means x (λ w. v (num w)) ∷ st)
     run-operand (chain e) c st h = run-chain e c st (omega arith)
-    run-operand (name i) c st h = rw (lt-ltb (length st) room (omega arith))
+    run-operand (name w) c st h = rw (lt-ltb (length st) room (omega arith))
     run-operand (negate x) c st h = rw append-assoc (run-operand x (invert ∷ c) st h)
     run-operand (bracket e) c st h = run-chain e c st (omega arith)
 
   -- on any stack: the meaning comes to lie on top, and nothing below changes
-  pub run-on : (e : Expression) (st : List Bool) → length st + 2 * depth e + 3 ≤ room → runOps room v (code e) st ≡ some (mean e v ∷ st)
+  pub run-on : (e : Expression N) (st : List Bool) → length st + 2 * depth e + 3 ≤ room
+      → runOps room v (code num e) st ≡ some (mean e (λ w. v (num w)) ∷ st)
   unfolding runOps
-  run-on e st h = ap (λ (c : List Op). runOps room v c st) (sym (append-nil (code e))) ∙ run-chain e [] st h
+  run-on e st h = ap (λ (c : List Op). runOps room v c st) (sym (append-nil (code num e))) ∙ run-chain e [] st h
 
 -- 19 values are enough where brackets stand at most 8 deep, and 24 all the more
-pub nineteen : (e : Expression) (v : ℕ → Bool) → depth e ≤ 8 → (room : ℕ) → 19 ≤ room → runOps room v (code e) [] ≡ some (mean e v ∷ [])
-nineteen e v h room g = run-on room v e [] (omega arith)
+pub nineteen : {N : Type 0} (num : N → ℕ) (e : Expression N) (v : ℕ → Bool) → depth e ≤ 8 → (room : ℕ) → 19 ≤ room
+    → runOps room v (code num e) [] ≡ some (mean e (λ w. v (num w)) ∷ [])
+nineteen num e v h room g = run-on num room v e [] (omega arith)
 
 -- `a OR b AND (a OR b AND ( .. c))`, k brackets deep
-pub steep : ℕ → Expression
+pub steep : ℕ → Expression ℕ
 steep zero = join (only (chain (only (name 0)))) (chain (join (only (name 1)) (name 2)))
 steep (suc k) = join (only (chain (only (name 0)))) (chain (join (only (name 1)) (bracket (steep k))))
 
 -- the bound is reached: 8 deep, in 53 tokens, takes 19 values and not 18
-pub tight : (length (print (steep 8)) ≡ 53) × (depth (steep 8) ≡ 8) × (runOps 18 (λ i. true) (code (steep 8)) [] ≡ none)
-    × (runOps 19 (λ i. true) (code (steep 8)) [] ≡ some (true ∷ []))
+pub tight : (length (print (steep 8)) ≡ 53) × (depth (steep 8) ≡ 8) × (runOps 18 (λ i. true) (code (λ i. i) (steep 8)) [] ≡ none)
+    × (runOps 19 (λ i. true) (code (λ i. i) (steep 8)) [] ≡ some (true ∷ []))
 unfolding steep print depth code runOps stepOp
 tight = (refl, refl, refl, refl)
 
 -- at most as many words as tokens, and at least one of each
-mutual
-  unfolding code print
+module _ {N : Type 0} (num : N → ℕ) where
+  mutual
+    unfolding code print
 
-  pub few-words : {b : Operator} (e : Chain b) → (1 ≤ length (code e)) × (length (code e) ≤ length (print e))
-  few-words (only x) = few-words-of x
-  few-words (join e x) = simp length-append (omega (arith, few-words e), omega (arith, few-words e, few-words-of x))
+    pub few-words : {b : Operator} (e : Chain N b) → (1 ≤ length (code num e)) × (length (code num e) ≤ length (print e))
+    few-words (only x) = few-words-of x
+    few-words (join e x) = simp length-append (omega (arith, few-words e), omega (arith, few-words e, few-words-of x))
 
-  few-words-of : {b : Operator} (x : Operand b) → (1 ≤ length (coded x)) × (length (coded x) ≤ length (printed x))
-  few-words-of (chain e) = few-words e
-  few-words-of (name i) = (omega arith, omega arith)
-  few-words-of (negate x) = simp length-append (omega arith, omega (arith, few-words-of x))
-  few-words-of (bracket e) = simp length-append (omega (arith, few-words e), omega (arith, few-words e))
+    few-words-of : {b : Operator} (x : Operand N b) → (1 ≤ length (coded num x)) × (length (coded num x) ≤ length (printed x))
+    few-words-of (chain e) = few-words e
+    few-words-of (name w) = (omega arith, omega arith)
+    few-words-of (negate x) = simp length-append (omega arith, omega (arith, few-words-of x))
+    few-words-of (bracket e) = simp length-append (omega (arith, few-words e), omega (arith, few-words e))

@@ -2,16 +2,21 @@
 use Prim.Native.Nat.{ℕ, zero, suc, _+_, _-_, _≤_, _<_, min}
 use native.Mathlib.Omega.{arith}
 use native.Mathlib.Numerals.{add-one}
-use mathlib.Core.Path.{_≡_, refl, sym, ap, _∙_}
-use mathlib.Core.Bool.{Bool, true, false, cond}
+use mathlib.Core.Path.{_≡_, refl, sym, ap, subst, _∙_}
+use mathlib.Core.Bool.{Bool, true, false, false≢true}
 use mathlib.Core.Logic.{_⊎_, inl, inr}
-use mathlib.Core.List.{List, [], _∷_}
+use mathlib.Core.List.{List, [], _∷_, _++_}
 use lib.ListN.{length, take, drop, getD, length-take, drop-of-length-le}
 use lib.Seq.{take-all, take-nil}
-use Rattle.text.specs.Texts.{bytes, same}
-use Rattle.lists.proofs.Cases.{le-or-lt}
+use Rattle.lists.specs.Lists.{any}
+use Rattle.lists.proofs.Cases.{by-cases, le-or-lt}
+use Rattle.text.specs.Texts.{same}
 use Rattle.text.proofs.Spans.{drop-one}
-use Rattle.grammar.specs.Lex.{Token, word, left, right, spans, namesIn, find, numberOf}
+use Rattle.grammar.specs.Lex.{Token, word, AND, OR, NOT, open′, close′}
+use Rattle.grammar.specs.Tree.{Operator, or, and, Chain, only, join, Operand, chain, name, negate, bracket, Expression, mark, print, printed}
+use Rattle.grammar.specs.TokensCode.{spans, namesIn, find}
+use Rattle.grammar.specs.Outcome.{Named, numberIn, stateOf}
+use Rattle.grammar.proofs.Maps.{mapTree, mapOperand}
 
 -- a part of a file: what is dropped from what is taken is taken from what is dropped
 drop-take : (a e : ℕ) (f : List ℕ) → drop a (take e f) ≡ take (e - a) (drop a f)
@@ -74,30 +79,76 @@ pub few-names : (f ss es : List ℕ) → length (namesIn f ss es) ≤ 32
 unfolding namesIn
 few-names f ss es = omega (arith, length-take 32 (spans f ss es))
 
--- a token's number is that of one of the names, or at least 32
-abbrev pub Fine : ℕ → ℕ → Type 0
-Fine n t = (t < n) ⊎ (32 ≤ t)
+-- the number of a name that one of the triggers has
+pub number-low : (names : List (List ℕ)) (w : List ℕ) → any (same w) names ≡ true → numberIn names w < length names
+unfolding any numberIn
+number-low [] w e = absurd (false≢true e)
+number-low (n ∷ names) w e = by-cases (same w n) (λ t. rw t (omega arith)) (λ t. rw t (omega (arith, number-low names w (rw t at e))))
 
-fine-find : (names : List (List ℕ)) (w : List ℕ) (k : ℕ) → Fine (k + length names) (find names w k)
-unfolding find
-fine-find [] w k = inr (omega arith)
-fine-find (x ∷ names) w k = go (same w x) (fine-find names w (suc k))
-  where
-    go : (b : Bool) → Fine (suc k + length names) (find names w (suc k)) → Fine (k + suc (length names)) (cond b k (find names w (suc k)))
-    go true f = inl (omega arith)
-    go false (inl p) = inl (omega arith)
-    go false (inr p) = inr p
+-- what `find` finds, counting from k
+find-named : (names : List (List ℕ)) (w : List ℕ) (k : ℕ) → any (same w) names ≡ true → find names w k ≡ k + numberIn names w
+unfolding any numberIn find
+find-named [] w k e = absurd (false≢true e)
+find-named (n ∷ names) w k e =
+    by-cases (same w n) (λ t. rw t (omega arith)) (λ t. rw t (omega (arith, find-named names w (suc k) (rw t at e))))
 
-pub fine : (names : List (List ℕ)) (t : Token) → Fine (length names) (numberOf names t)
-unfolding numberOf
-fine names (word w) = go (same w (bytes "AND")) (same w (bytes "OR")) (same w (bytes "NOT")) (fine-find names w 0)
-  where
-    go : (a b c : Bool) → Fine (0 + length names) (find names w 0)
-        → Fine (length names) (cond a 32 (cond b 33 (cond c 34 (find names w 0))))
-    go true b c f = inr (omega arith)
-    go false true c f = inr (omega arith)
-    go false false true f = inr (omega arith)
-    go false false false (inl p) = inl (omega arith)
-    go false false false (inr p) = inr p
-fine names left = inr (omega arith)
-fine names right = inr (omega arith)
+pub number-found : (names : List (List ℕ)) (w : List ℕ) → any (same w) names ≡ true → find names w 0 ≡ numberIn names w
+number-found names w e = omega (arith, find-named names w 0 e)
+
+pub find-unnamed : (names : List (List ℕ)) (w : List ℕ) (k : ℕ) → any (same w) names ≡ false → find names w k ≡ 37
+unfolding any find
+find-unnamed [] w k e = refl
+find-unnamed (n ∷ names) w k e =
+    by-cases (same w n) (λ t. absurd (false≢true (sym (rw t at e)))) (λ t. rw t (find-unnamed names w (suc k) (rw t at e)))
+
+-- the state of the trigger of that number is that of the trigger of that name
+pub state-named : (names : List (List ℕ)) (states : List Bool) (w : List ℕ) → any (same w) names ≡ true
+    → getD states (numberIn names w) false ≡ stateOf names states w
+unfolding any numberIn stateOf
+state-named [] states w e = absurd (false≢true e)
+state-named (n ∷ names) [] w e = refl
+state-named (n ∷ names) (b ∷ states) w e = by-cases (same w n) (λ t. rw t) (λ t. rw t (state-named names states w (rw t at e)))
+
+-- a name that one of the triggers has
+abbrev pub NameOf : List (List ℕ) → Type 0
+NameOf names = (w : List ℕ) × (any (same w) names ≡ true)
+
+module _ (names : List (List ℕ)) where
+  named-split : (s l : List (Token (List ℕ))) → Named names (s ++ l) → Named names s × Named names l
+  named-split [] l n = (tt, n)
+  named-split (word w ∷ s) l n = let r = named-split s l (n .1) in ((n .0, r .0), r .1)
+  named-split (AND ∷ s) l n = named-split s l n
+  named-split (OR ∷ s) l n = named-split s l n
+  named-split (NOT ∷ s) l n = named-split s l n
+  named-split (open′ ∷ s) l n = named-split s l n
+  named-split (close′ ∷ s) l n = named-split s l n
+
+  past-mark : (b : Operator) (l : List (Token (List ℕ))) → Named names (mark b ∷ l) → Named names l
+  past-mark or l n = n
+  past-mark and l n = n
+
+  mutual
+    unfolding print mapTree
+
+    name-tree : {b : Operator} (e : Chain (List ℕ) b) → Named names (print e)
+        → (x : Chain (NameOf names) b) × (mapTree (λ (w : NameOf names). w .0) x ≡ e)
+    name-tree (only x) n = let y = name-operand x n in (only (y .0), ap only (y .1))
+    name-tree {b} (join c x) n =
+        let s = named-split (print c) (mark b ∷ printed x) n in
+        let d = name-tree c (s .0) in
+        let y = name-operand x (past-mark b (printed x) (s .1)) in
+        (join (d .0) (y .0), λ i. join (d .1 i) (y .1 i))
+
+    name-operand : {b : Operator} (x : Operand (List ℕ) b) → Named names (printed x)
+        → (y : Operand (NameOf names) b) × (mapOperand (λ (w : NameOf names). w .0) y ≡ x)
+    name-operand (chain c) n = let d = name-tree c n in (chain (d .0), ap chain (d .1))
+    name-operand (name w) n = (name (w, n .0), refl)
+    name-operand (negate x) n = let y = name-operand x n in (negate (y .0), ap negate (y .1))
+    name-operand (bracket e) n =
+        let f = name-tree e (named-split (print e) (close′ ∷ []) n .0) in
+        (bracket (f .0), ap bracket (f .1))
+
+  -- what holds of every tree of names holds of every tree all of whose words are names
+  pub of-names : (P : Expression (List ℕ) → Type 0) → ((x : Expression (NameOf names)) → P (mapTree (λ (w : NameOf names). w .0) x))
+      → (e : Expression (List ℕ)) → Named names (print e) → P e
+  of-names P h e n = let x = name-tree e n in subst P (x .1) (h (x .0))

@@ -1,155 +1,242 @@
--- What `compile` answers is what the rules give, and the rules give one answer.
-use Prim.Native.Nat.{ℕ, _-_, _≤_}
+-- What becomes of an expression's text: the rules give one answer for any names, and `compile` answers it.
+use Prim.Native.Nat.{ℕ, _-_, _≤_, _<_}
 use native.Mathlib.Omega.{arith}
-use mathlib.Core.Path.{_≡_, refl, sym, ap, subst, _∙_}
-use mathlib.Core.Bool.{Bool, true, false, false≢true}
+use mathlib.Core.Path.{_≡_, refl, sym, ap, subst, fun-ext, _∙_}
+use mathlib.Core.Bool.{Bool, true, false, cond, false≢true}
 use mathlib.Core.Logic.{_↔_}
 use mathlib.Core.Option.{Option, none, some, Option·none-ne-some}
 use mathlib.Core.List.{List, [], _∷_, map, append-nil}
-use lib.ListN.{length, replicate, length-append, length-replicate, length-map}
-use lib.Dec.{leb, ltb}
-use borrow.Author.Tests.{leb-true, leb-false, ltb-true, lt-ltb}
-use Rattle.lists.proofs.Cases.{by-cases}
+use lib.ListN.{length, take, replicate, length-append, length-replicate, length-map}
+use lib.Seq.{take-append-seam}
+use lib.Dec.{leb}
+use borrow.Author.Tests.{leb-true, le-leb, lt-ltb}
+use Rattle.lists.specs.Lists.{any}
+use Rattle.lists.proofs.Cases.{by-cases, some-same}
+use Rattle.text.specs.Texts.{same}
 use Rattle.code.specs.Code.{wordOf}
-use Rattle.grammar.specs.Lex.{Token, numberOf}
-use Rattle.grammar.specs.TokensCode.{lex, mapped, numbers}
-use Rattle.grammar.proofs.Spelled.{spelled}
-use Rattle.grammar.specs.Tree.{Tok, or, Expression, print, depth, code}
-use Rattle.grammar.specs.Outcome.{tokenOf, Rules, ReadsAs, Named, filled, Gives, breaks, unnamed, compiles}
-use Rattle.grammar.specs.GrammarCode.{Res, got, fault, parseChain, whole, allNamed, judgedCode, compiledFrom, ifAny, compiled}
+use Rattle.grammar.specs.Lex.{Token, word, AND, OR, NOT, open′, close′, Spells}
+use Rattle.grammar.specs.Tree.{or, Expression, print, depth, code}
+use Rattle.grammar.specs.Outcome.{ReadsAs, Named, numberIn, Becomes, breaks, unnamed, compiles}
+use Rattle.grammar.specs.TokensCode.{lex, find, numberOf, numberedToken, mapped, numbers}
+use Rattle.grammar.specs.GrammarCode.{Res, got, fault, parseChain, whole, allNamed, verdictRefusal, noWords, judgedCode, compiledFrom, ifAny, compiled}
 use Rattle.grammar.specs.declared.Compiled.{Compiled}
-use Rattle.grammar.specs.declared.Verdict.{Verdict}
-use Rattle.grammar.specs.declared.Verdict.the-variants.{Good, Broken, Unknown}
+use Rattle.grammar.specs.declared.Verdict.the-variants.{Broken}
 use Rattle.grammar.proofs.Sound.{Every, Front}
-use Rattle.grammar.proofs.Complete.{complete, unambiguous, sound}
+use Rattle.grammar.proofs.Complete.{complete, sound}
 use Rattle.grammar.proofs.Machine.{few-words}
+use Rattle.grammar.proofs.Maps.{mapToken, mapTree, whole-natural, code-natural}
+use Rattle.grammar.proofs.Names.{NameOf, number-low, number-found, find-unnamed, of-names}
+use Rattle.grammar.proofs.Laws.{token-word}
+use Rattle.grammar.proofs.Spelled.{spelled, spells-lex}
 
-abbrev pub isGood : Verdict → Bool
-isGood Good = true
-isGood Broken = false
-isGood Unknown = false
-
-abbrev isBroken : Verdict → Bool
-isBroken Good = false
-isBroken Broken = true
-isBroken Unknown = false
-
-some-same : {A : Type 0} {x y : A} → some x ≡ some y → x ≡ y
-some-same e = cc
-
--- a text has one list of tokens, and with the names one tree
-module _ {names : List (List ℕ)} {text : List ℕ} where
-  tokens-once : {e f : Expression} (r : ReadsAs names text e) (s : ReadsAs names text f) → r .tokens ≡ s .tokens
-  tokens-once r s = some-same (sym (spelled text (r .tokens) .1 (r .spelled)) ∙ spelled text (s .tokens) .1 (s .spelled))
-
-  pub only-tree : {e f : Expression} → ReadsAs names text e → ReadsAs names text f → e ≡ f
-  only-tree {e} {f} r s =
-      unambiguous e f
-      (sym (r .rules .printed) ∙ ap (λ (ts : List Token). map tokenOf (map (numberOf names) ts)) (tokens-once r s) ∙ s .rules .printed)
-
-  -- the rules give one answer
-  pub gives-once : {a b : Compiled} → Gives names text a → Gives names text b → a ≡ b
-  gives-once (breaks h) (breaks k) = refl
-  gives-once (breaks h) (unnamed f s m) = absurd (h f s)
-  gives-once (breaks h) (compiles f s m) = absurd (h f s)
-  gives-once (unnamed e r n) (breaks k) = absurd (k e r)
-  gives-once (unnamed e r n) (unnamed f s m) = refl
-  gives-once (unnamed e r n) (compiles f s m) =
-      absurd (n (subst (λ (ts : List Token). Named (map (numberOf names) ts)) (tokens-once s r) m))
-  gives-once (compiles e r n) (breaks k) = absurd (k e r)
-  gives-once (compiles e r n) (unnamed f s m) =
-      absurd (m (subst (λ (ts : List Token). Named (map (numberOf names) ts)) (tokens-once r s) n))
-  gives-once (compiles e r n) (compiles f s m) = ap (λ (x : Expression). filled (map wordOf (code x))) (only-tree r s)
-
-  rules-of : {e : Expression} {ts : List Token} → lex text ≡ some ts → ReadsAs names text e
-      → Rules (map tokenOf (map (numberOf names) ts)) e
-  rules-of {e} l r =
-      subst (λ (ts : List Token). Rules (map tokenOf (map (numberOf names) ts)) e)
-      (some-same (sym (spelled text (r .tokens) .1 (r .spelled)) ∙ l)) (r .rules)
-
--- what is read whole is a tree that prints to the tokens, and such a tree is read whole
-whole-sound : (d : ℕ) (l : List Tok) (e : Expression) → whole (parseChain or d l) ≡ some e → (l ≡ print e) × (depth e ≤ d)
-whole-sound d l e = go (parseChain or d l) (sound d l)
+-- what is read whole is a tree that prints to the tokens
+whole-sound : {N : Type 0} (d : ℕ) (l : List (Token N)) (e : Expression N) → whole (parseChain or d l) ≡ some e
+    → (l ≡ print e) × (depth e ≤ d)
+whole-sound {N} d l e = go (parseChain or d l) (sound d l)
   where
-    go : (p : Res Expression) → Every (Front print depth d l) p → whole p ≡ some e → (l ≡ print e) × (depth e ≤ d)
+    go : (p : Res N (Expression N)) → Every (Front print depth d l) p → whole p ≡ some e → (l ≡ print e) × (depth e ≤ d)
     go (got f []) s w = let q : f ≡ e = some-same w in rw (← q) (s .0 ∙ append-nil (print f), s .1)
     go (got f (t ∷ l₁)) s w = absurd (Option·none-ne-some e w)
     go fault s w = absurd (Option·none-ne-some e w)
 
-whole-complete : (l : List Tok) (e : Expression) → Rules l e → whole (parseChain or 8 l) ≡ some e
-whole-complete l e r = ap (λ (x : List Tok). whole (parseChain or 8 x)) (r .printed) ∙ ap whole (complete 8 e (r .shallow))
+-- the tree that a text's tokens are, if they are one within the rules
+abbrev treeIn : Option (List (Token (List ℕ))) → Option (Expression (List ℕ))
+treeIn none = none
+treeIn (some ts) = cond (leb (length ts) 64) (whole (parseChain or 8 ts)) none
 
--- the test on numbers
-named-all : (ns : List ℕ) → allNamed ns ≡ true → Named ns
-unfolding allNamed
-named-all [] e = tt
-named-all (n ∷ ns) e =
-    by-cases (ltb n 37) (λ t. (ltb-true n 37 t, named-all ns (rw t at e))) (λ t. absurd (false≢true (rw t at e)))
+module _ {text : List ℕ} {e : Expression (List ℕ)} where
+  reads-tree : treeIn (lex text) ≡ some e → ReadsAs text e
+  reads-tree = go (lex text) refl
+    where
+      go : (x : Option (List (Token (List ℕ)))) → lex text ≡ x → treeIn x ≡ some e → ReadsAs text e
+      go none l q = absurd (Option·none-ne-some e q)
+      go (some ts) l q =
+          by-cases (leb (length ts) 64)
+          (λ s. let w = whole-sound 8 ts e (rw s at q) in
+          record {
+            spelled = subst (Spells text) (w .0) (spelled text ts .0 l);
+            some-tokens = omega (arith, few-words (λ w. 0) e);
+            short = omega (arith, ap length (w .0), leb-true (length ts) 64 s);
+            shallow = w .1;
+          })
+          (λ s. absurd (Option·none-ne-some e (rw s at q)))
 
-all-named : (ns : List ℕ) → Named ns → allNamed ns ≡ true
-unfolding allNamed
-all-named [] h = refl
-all-named (n ∷ ns) h = rw (lt-ltb n 37 (h .0), all-named ns (h .1))
+  tree-read : ReadsAs text e → treeIn (lex text) ≡ some e
+  tree-read r = rw (spells-lex (r .spelled), le-leb (length (print e)) 64 (r .short), complete 8 e (r .shallow))
 
-module _ (names : List (List ℕ)) (text : List ℕ) where
-  gives-tree : (ts : List Token) → lex text ≡ some ts → length (map (numberOf names) ts) ≤ 64
-      → (p : Option Expression) → whole (parseChain or 8 (map tokenOf (map (numberOf names) ts))) ≡ p
-      → Gives names text (judgedCode (allNamed (map (numberOf names) ts)) p)
-  gives-tree ts l s none w = breaks (λ e r. Option·none-ne-some e (sym w ∙ whole-complete _ e (rules-of l r)))
-  gives-tree ts l s (some e) w =
-      let ns = map (numberOf names) ts in
-      let q = whole-sound 8 (map tokenOf ns) e w in
-      let k : length (map tokenOf ns) ≡ length ns = length-map ns tokenOf in
-      let n = few-words e in
-      let r : ReadsAs names text e =
-      record {
-        tokens = ts;
-        spelled = spelled text ts .0 l;
-        rules = record { printed = q .0; some-tokens = omega (arith, ap length (q .0)); short = omega arith; shallow = q .1 };
-      } in
-      by-cases (allNamed ns) (λ t. rw t (compiles e r (named-all ns t)))
-      (λ t. rw t (unnamed e r (λ m. false≢true (sym t ∙ all-named ns m))))
+no-tree : {text : List ℕ} → treeIn (lex text) ≡ none → (e : Expression (List ℕ)) → ReadsAs text e → ⊥
+no-tree q e r = Option·none-ne-some e (sym q ∙ tree-read r)
 
-  pub gives : Gives names text (compiled names text)
+-- a text is at most one tree
+pub only-tree : {text : List ℕ} {e f : Expression (List ℕ)} → ReadsAs text e → ReadsAs text f → e ≡ f
+only-tree r s = some-same (sym (tree-read r) ∙ tree-read s)
+
+-- all words are names, or not
+named-or : {A : Type 0} (names : List (List ℕ)) (l : List (Token (List ℕ))) → (Named names l → A) → ((Named names l → ⊥) → A) → A
+named-or names [] f g = f tt
+named-or names (word w ∷ l) f g =
+    by-cases (any (same w) names) (λ t. named-or names l (λ n. f (t, n)) (λ n. g (λ m. n (m .1))))
+    (λ t. g (λ m. false≢true (sym t ∙ m .0)))
+named-or names (AND ∷ l) f g = named-or names l f g
+named-or names (OR ∷ l) f g = named-or names l f g
+named-or names (NOT ∷ l) f g = named-or names l f g
+named-or names (open′ ∷ l) f g = named-or names l f g
+named-or names (close′ ∷ l) f g = named-or names l f g
+
+-- the rules give an answer
+pub becomes : (names : List (List ℕ)) (text : List ℕ) → (r : Option ℕ) × (ws : List ℕ) × Becomes names text r ws
+becomes names text = go (treeIn (lex text)) refl
+  where
+    go : (p : Option (Expression (List ℕ))) → treeIn (lex text) ≡ p → (r : Option ℕ) × (ws : List ℕ) × Becomes names text r ws
+    go none q = (some 11, [], breaks (no-tree q))
+    go (some e) q =
+        let r = reads-tree q in
+        named-or names (print e) (λ n. (none, map wordOf (code (numberIn names) e), compiles e r n)) (λ n. (some 12, [], unnamed e r n))
+
+-- and one only
+module _ {names : List (List ℕ)} {text : List ℕ} where
+  pub becomes-once : {r r′ : Option ℕ} {ws ws′ : List ℕ} → Becomes names text r ws → Becomes names text r′ ws′ → (r ≡ r′) × (ws ≡ ws′)
+  becomes-once (breaks h) (breaks k) = (refl, refl)
+  becomes-once (breaks h) (unnamed f s m) = absurd (h f s)
+  becomes-once (breaks h) (compiles f s m) = absurd (h f s)
+  becomes-once (unnamed e r n) (breaks k) = absurd (k e r)
+  becomes-once (unnamed e r n) (unnamed f s m) = (refl, refl)
+  becomes-once (unnamed e r n) (compiles f s m) = absurd (n (rw (only-tree r s) m))
+  becomes-once (compiles e r n) (breaks k) = absurd (k e r)
+  becomes-once (compiles e r n) (unnamed f s m) = absurd (m (rw (only-tree s r) n))
+  becomes-once (compiles e r n) (compiles f s m) =
+      (refl, ap (λ (x : Expression (List ℕ)). map wordOf (code (numberIn names) x)) (only-tree r s))
+
+-- by numbers, where there are at most 32 names
+module _ (names : List (List ℕ)) (few : length names ≤ 32) where
+  numbered-token : (t : Token (List ℕ)) → numberedToken (numberOf names t) ≡ mapToken (λ w. find names w 0) t
+  unfolding numberOf numberedToken
+  numbered-token (word w) =
+      by-cases (any (same w) names)
+      (λ e. let h : find names w 0 < 32 = omega (arith, number-found names w e, number-low names w e) in
+      token-word _ (λ q. omega arith) (λ q. omega arith) (λ q. omega arith) (λ q. omega arith) (λ q. omega arith))
+      (λ e. rw (find-unnamed names w 0 e))
+  numbered-token AND = refl
+  numbered-token OR = refl
+  numbered-token NOT = refl
+  numbered-token open′ = refl
+  numbered-token close′ = refl
+
+  numbered : (l : List (Token (List ℕ))) → map numberedToken (map (numberOf names) l) ≡ map (mapToken (λ w. find names w 0)) l
+  numbered [] = refl
+  numbered (t ∷ l) = rw (numbered-token t, numbered l)
+
+  all-named : (l : List (Token (List ℕ))) → Named names l → allNamed (map (numberOf names) l) ≡ true
+  unfolding allNamed numberOf
+  all-named [] n = refl
+  all-named (word w ∷ l) n =
+      rw (lt-ltb (find names w 0) 37 (omega (arith, number-found names w (n .0), number-low names w (n .0)))) (all-named l (n .1))
+  all-named (AND ∷ l) n = all-named l n
+  all-named (OR ∷ l) n = all-named l n
+  all-named (NOT ∷ l) n = all-named l n
+  all-named (open′ ∷ l) n = all-named l n
+  all-named (close′ ∷ l) n = all-named l n
+
+  named-all : (l : List (Token (List ℕ))) → allNamed (map (numberOf names) l) ≡ true → Named names l
+  unfolding allNamed numberOf
+  named-all [] e = tt
+  named-all (word w ∷ l) e =
+      by-cases (any (same w) names)
+      (λ t. (t, named-all l (rw (lt-ltb (find names w 0) 37 (omega (arith, number-found names w t, number-low names w t))) at e)))
+      (λ t. absurd (false≢true (rw (find-unnamed names w 0 t) at e)))
+  named-all (AND ∷ l) e = named-all l e
+  named-all (OR ∷ l) e = named-all l e
+  named-all (NOT ∷ l) e = named-all l e
+  named-all (open′ ∷ l) e = named-all l e
+  named-all (close′ ∷ l) e = named-all l e
+
+  -- the numbers found are those of the names
+  found-code : (e : Expression (List ℕ)) → Named names (print e)
+      → code (λ i. i) (mapTree (λ w. find names w 0) e) ≡ code (numberIn names) e
+  found-code e n =
+      code-natural (λ w. find names w 0) (λ i. i) e
+      ∙ of-names names (λ x. code (λ w. find names w 0) x ≡ code (numberIn names) x)
+      (λ x. code-natural (λ (w : NameOf names). w .0) (λ w. find names w 0) x
+      ∙ ap (λ (num : NameOf names → ℕ). code num x) (fun-ext (λ w. number-found names (w .0) (w .1)))
+      ∙ sym (code-natural (λ (w : NameOf names). w .0) (numberIn names) x)) e n
+
+  -- what `compile` answers where the text is this tree
+  abbrev answered : Option (Expression (List ℕ)) → Compiled
+  answered none = noWords Broken
+  answered (some e) = judgedCode (allNamed (map (numberOf names) (print e))) (some (mapTree (λ w. find names w 0) e))
+
+  compiled-is : (text : List ℕ) → compiled names text ≡ answered (treeIn (lex text))
   unfolding compiled compiledFrom numbers
-  gives = go (lex text) refl
+  compiled-is text = go (lex text)
     where
-      go : (x : Option (List Token)) → lex text ≡ x → Gives names text (ifAny (mapped (map (numberOf names)) x))
-      go none l = breaks (λ e r. Option·none-ne-some (r .tokens) (sym l ∙ spelled text (r .tokens) .1 (r .spelled)))
-      go (some ts) l =
-          let ns = map (numberOf names) ts in
-          by-cases (leb (length ns) 64)
-          (λ s. rw s (gives-tree ts l (leb-true (length ns) 64 s) (whole (parseChain or 8 (map tokenOf ns))) refl))
-          (λ s. rw s (breaks (λ e r. let q = rules-of l r in
-          absurd (omega (arith, leb-false (length ns) 64 s, q .short, length-map ns tokenOf)))))
+      tree : (ts : List (Token (List ℕ))) (p : Option (Expression (List ℕ))) → whole (parseChain or 8 ts) ≡ p
+          → judgedCode (allNamed (map (numberOf names) ts)) (mapped (mapTree (λ w. find names w 0)) p) ≡ answered p
+      tree ts none q = refl
+      tree ts (some e) q = rw (whole-sound 8 ts e q .0)
 
-  -- 11 exactly if no tree within the rules is what the text says; 12 exactly if one is, but some word names no trigger
-  pub broken-exactly : (compiled names text .verdict ≡ Broken) ↔ ((e : Expression) → ReadsAs names text e → ⊥)
-  broken-exactly = (go gives, λ h. ap (λ (c : Compiled). c .verdict) (gives-once gives (breaks h)))
+      go : (x : Option (List (Token (List ℕ)))) → ifAny (mapped (map (numberOf names)) x) ≡ answered (treeIn x)
+      go none = refl
+      go (some ts) =
+          by-cases (leb (length ts) 64)
+          (λ s. rw (length-map ts (numberOf names), s, numbered ts, whole-natural (λ w. find names w 0) 8 ts)
+          (tree ts (whole (parseChain or 8 ts)) refl))
+          (λ s. rw (length-map ts (numberOf names), s))
+
+-- `compile` answers what the rules give
+pub compiled-becomes : (names : List (List ℕ)) (text : List ℕ) → length names ≤ 32
+    → Becomes names text (verdictRefusal (compiled names text .verdict)) (take (compiled names text .count) (compiled names text .words))
+compiled-becomes names text few = rw (compiled-is names few text) (go (treeIn (lex text)) refl)
+  where
+    go : (p : Option (Expression (List ℕ))) → treeIn (lex text) ≡ p
+        → Becomes names text (verdictRefusal (answered names few p .verdict))
+        (take (answered names few p .count) (answered names few p .words))
+    go none q = breaks (no-tree q)
+    go (some e) q =
+        let ws = map wordOf (code (λ i. i) (mapTree (λ w. find names w 0) e)) in
+        named-or names (print e)
+        (λ n. rw (all-named names few (print e) n, take-append-seam ws (replicate (64 - length ws) 0), found-code names few e n)
+        (compiles e (reads-tree q) n))
+        (λ n. by-cases (allNamed (map (numberOf names) (print e)))
+        (λ t. absurd (n (named-all names few (print e) t))) (λ t. rw t (unnamed e (reads-tree q) n)))
+
+-- 11 exactly if no tree within the rules is what the text says; 12 exactly if one is, but some word names no trigger
+module _ {names : List (List ℕ)} {text : List ℕ} {r : Option ℕ} {ws : List ℕ} (b : Becomes names text r ws) where
+  pub broken-exactly : (r ≡ some 11) ↔ ((e : Expression (List ℕ)) → ReadsAs text e → ⊥)
+  broken-exactly = (go b, λ h. becomes-once b (breaks h) .0)
     where
-      go : {c : Compiled} → Gives names text c → c .verdict ≡ Broken → (e : Expression) → ReadsAs names text e → ⊥
+      go : {r : Option ℕ} {ws : List ℕ} → Becomes names text r ws → r ≡ some 11 → (e : Expression (List ℕ)) → ReadsAs text e → ⊥
       go (breaks h) q = h
-      go (unnamed f s m) q = absurd (false≢true (ap isBroken q))
-      go (compiles f s m) q = absurd (false≢true (ap isBroken q))
+      go (unnamed f s m) q = absurd (omega (arith, some-same q))
+      go (compiles f s m) q = absurd (Option·none-ne-some 11 q)
 
-  pub unknown-exactly : (compiled names text .verdict ≡ Unknown) ↔
-      ((e : Expression) × (r : ReadsAs names text e) × (Named (map (numberOf names) (r .tokens)) → ⊥))
-  unknown-exactly = (go gives, λ h. ap (λ (c : Compiled). c .verdict) (gives-once gives (unnamed (h .0) (h .1) (h .2))))
+  pub unknown-exactly : (r ≡ some 12) ↔ ((e : Expression (List ℕ)) × ReadsAs text e × (Named names (print e) → ⊥))
+  unknown-exactly = (go b, λ h. becomes-once b (unnamed (h .0) (h .1) (h .2)) .0)
     where
-      go : {c : Compiled} → Gives names text c → c .verdict ≡ Unknown
-          → (e : Expression) × (r : ReadsAs names text e) × (Named (map (numberOf names) (r .tokens)) → ⊥)
-      go (breaks h) q = absurd (false≢true (sym (ap isBroken q)))
+      go : {r : Option ℕ} {ws : List ℕ} → Becomes names text r ws → r ≡ some 12
+          → (e : Expression (List ℕ)) × ReadsAs text e × (Named names (print e) → ⊥)
+      go (breaks h) q = absurd (omega (arith, some-same q))
       go (unnamed f s m) q = (f, s, m)
-      go (compiles f s m) q = absurd (false≢true (sym (ap isGood q)))
+      go (compiles f s m) q = absurd (Option·none-ne-some 12 q)
 
-  -- there are never more than 64 words, in an array of 64
-  pub fits : {a : Compiled} → a ≡ compiled names text → (a .count ≤ 64) × (length (a .words) ≡ 64)
-  fits p = rw p (go gives)
-    where
-      go : {c : Compiled} → Gives names text c → (c .count ≤ 64) × (length (c .words) ≡ 64)
-      go (breaks h) = (omega arith, refl)
-      go (unnamed f s m) = (omega arith, refl)
-      go (compiles f s m) =
-          let ws = map wordOf (code f) in
-          let k : length ws ≤ 64 = omega (arith, length-map (code f) wordOf, few-words f, ap length (s .rules .printed), s .rules .short) in
-          (k, omega (arith, length-append ws (replicate (64 - length ws) 0), length-replicate {A = ℕ} (64 - length ws) 0))
+-- there are never more than 64 words, in an array of 64
+pub fits : (names : List (List ℕ)) (text : List ℕ) {a : Compiled} → a ≡ compiled names text → (a .count ≤ 64) × (length (a .words) ≡ 64)
+unfolding compiled compiledFrom
+fits names text p = rw p (go (numbers names text))
+  where
+    tree : (ts : List ℕ) → length ts ≤ 64 → (b : Bool) (x : Option (Expression ℕ)) → whole (parseChain or 8 (map numberedToken ts)) ≡ x
+        → (judgedCode b x .count ≤ 64) × (length (judgedCode b x .words) ≡ 64)
+    tree ts s b none q = (omega arith, refl)
+    tree ts s false (some e) q = (omega arith, refl)
+    tree ts s true (some e) q =
+        let c = code (λ i. i) e in
+        let ws = map wordOf c in
+        let n : length (print e) ≡ length ts = sym (ap length (whole-sound 8 _ e q .0)) ∙ length-map ts numberedToken in
+        let k : length ws ≤ 64 = omega (arith, length-map c wordOf, few-words (λ i. i) e) in
+        (k, omega (arith, length-append ws (replicate (64 - length ws) 0), length-replicate {A = ℕ} (64 - length ws) 0))
+
+    go : (x : Option (List ℕ)) → (ifAny x .count ≤ 64) × (length (ifAny x .words) ≡ 64)
+    go none = (omega arith, refl)
+    go (some ts) =
+        by-cases (leb (length ts) 64)
+        (λ s. rw s (tree ts (leb-true (length ts) 64 s) (allNamed ts) (whole (parseChain or 8 (map numberedToken ts))) refl))
+        (λ s. rw s (omega arith, refl))

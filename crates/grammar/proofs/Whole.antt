@@ -1,26 +1,27 @@
 -- Laws of a whole expression: are all words named, what becomes of the tokens, what becomes of the text.
-use Prim.Native.Nat.{ℕ, zero, suc, _+_, _-_, _≤_, _<_}
+use Prim.Native.Nat.{ℕ, _+_, _-_, _≤_, _<_}
 use native.Mathlib.Omega.{arith}
 use mathlib.Core.Path.{_≡_, refl, sym, ap, subst, _∙_}
 use mathlib.Core.Bool.{true, false, false≢true}
 use mathlib.Core.Option.{Option, none, some}
 use mathlib.Core.List.{List, _++_, map}
-use lib.ListN.{length, take, drop, getD, replicate, length-take, length-append, length-replicate, take-append-drop, drop-of-length-le}
+use lib.ListN.{length, take, drop, getD, replicate, length-append, length-replicate, drop-of-length-le}
 use lib.Seq.{take-append-seam}
 use lib.Dec.{leb}
 use borrow.Author.Tests.{lt-ltb, le-ltb, leb-true}
 use Rattle.lists.proofs.Cases.{by-cases}
+use Rattle.lists.proofs.Fills.{filled-all, filled-count}
 use Rattle.text.proofs.Spans.{drop-one}
 use Rattle.code.specs.Code.{wordOf}
-use Rattle.grammar.specs.TokensCode.{numbers, lexed, laidTokens}
+use Rattle.grammar.specs.TokensCode.{numberedToken, numbers, lexed, laidTokens}
 use Rattle.grammar.specs.declared.Lexed.{Lexed}
 use Rattle.grammar.specs.Tree.{or, Expression, code}
-use Rattle.grammar.specs.Outcome.{tokenOf, noWords}
-use Rattle.grammar.specs.GrammarCode.{Res, parseChain, whole, allNamed, judgedCode, compiledFrom, ifAny, compiled, Agrees}
+use Rattle.grammar.specs.GrammarCode.{Res, parseChain, whole, allNamed, noWords, judgedCode, compiledFrom, ifAny, compiled, Agrees}
 use Rattle.grammar.specs.declared.Got.{Got}
 use Rattle.grammar.specs.declared.Got.the-variants.{At, Fault}
 use Rattle.grammar.specs.declared.Compiled.{Compiled}
 use Rattle.grammar.specs.declared.Verdict.the-variants.{Good, Broken, Unknown}
+use Rattle.grammar.proofs.Tokens.{drop-zeros}
 use Rattle.grammar.proofs.Laws.{tokens-at, tokens-end, took, faulty}
 
 -- are all words named
@@ -37,41 +38,36 @@ module _ (ts : List ℕ) (i : ℕ) where
   unfolding allNamed
   named-over h = rw (drop-of-length-le ts h)
 
-drop-zeros : (n k : ℕ) → drop {A = ℕ} n (replicate k 0) ≡ replicate (k - n) 0
-drop-zeros zero k = let q : k ≡ k - 0 = omega arith in ap (λ (j : ℕ). replicate j 0) q
-drop-zeros (suc n) zero = let q : 0 ≡ 0 - suc n = omega arith in ap (λ (j : ℕ). replicate j 0) q
-drop-zeros (suc n) (suc k) = let q : k - n ≡ suc k - suc n = omega arith in drop-zeros n k ∙ ap (λ (j : ℕ). replicate j 0) q
-
 -- what becomes of the tokens, by what the reader of the code answered
-module _ {ts o : List ℕ} {r : Got} (a : Agrees code ts 0 0 (replicate 64 0) o (parseChain or 8 (map tokenOf ts)) r) where
+module _ {ts o : List ℕ} {r : Got} (a : Agrees (code (λ i. i)) ts 0 0 (replicate 64 0) o (parseChain or 8 (map numberedToken ts)) r) where
   pub no-expression : r ≡ Fault → compiledFrom ts ≡ noWords Broken
   unfolding compiledFrom
-  no-expression e = ap (λ (p : Res Expression). judgedCode (allNamed ts) (whole p)) (faulty a e)
+  no-expression e = ap (λ (p : Res ℕ (Expression ℕ)). judgedCode (allNamed ts) (whole p)) (faulty a e)
 
   module _ {i m : ℕ} (e : r ≡ At i m) where
     pub left-over : i < length ts → compiledFrom ts ≡ noWords Broken
     unfolding compiledFrom
-    left-over h = let t = took a e in ap (λ (p : Res Expression). judgedCode (allNamed ts) (whole p)) (t .same) ∙ rw (tokens-at ts i h)
+    left-over h =
+        let t = took a e in
+        ap (λ (p : Res ℕ (Expression ℕ)). judgedCode (allNamed ts) (whole p)) (t .same) ∙ rw (tokens-at ts i h)
 
     all-read : length ts ≤ i → compiledFrom ts ≡ judgedCode (allNamed ts) (some (took a e .tree))
     unfolding compiledFrom
-    all-read h = let t = took a e in ap (λ (p : Res Expression). judgedCode (allNamed ts) (whole p)) (t .same) ∙ rw (tokens-end ts i h)
+    all-read h =
+        let t = took a e in
+        ap (λ (p : Res ℕ (Expression ℕ)). judgedCode (allNamed ts) (whole p)) (t .same) ∙ rw (tokens-end ts i h)
 
     pub some-unnamed : length ts ≤ i → allNamed ts ≡ false → compiledFrom ts ≡ noWords Unknown
     some-unnamed h n = all-read h ∙ rw n
 
-    pub all-named : length ts ≤ 64 → length o ≡ 64 → length ts ≤ i → allNamed ts ≡ true
-        → compiledFrom ts ≡ record { verdict = Good; count = m; words = o }
-    all-named s l h n =
-        let t = took a e in
-        let w = t .written in
-        let ws = map wordOf (code (t .tree)) in
-        let q : m ≡ length ws = omega (arith, w .spare, w .within, l, length-take m o, ap length (w .before)) in
-        let z : drop m o ≡ replicate (64 - m) 0 = w .behind ∙ drop-zeros m 64 in
+    pub all-named : length ts ≤ i → allNamed ts ≡ true → compiledFrom ts ≡ record { verdict = Good; count = m; words = o }
+    all-named h n =
+        let f = took a e .written .filled in
+        let ws = map wordOf (code (λ i. i) (took a e .tree)) in
+        let q : length ws ≡ m = filled-count f in
         let k : ws ++ replicate (64 - length ws) 0 ≡ o =
-        ap (λ (j : ℕ). ws ++ replicate (64 - j) 0) (sym q) ∙ ap (λ (x : List ℕ). ws ++ x) (sym z)
-        ∙ ap (λ (x : List ℕ). x ++ drop m o) (sym (w .before)) ∙ take-append-drop m o in
-        all-read h ∙ rw n (same-answer (length ws) m (ws ++ replicate (64 - length ws) 0) o (sym q) k)
+        ap (λ (j : ℕ). ws ++ replicate (64 - j) 0) q ∙ ap (λ (x : List ℕ). ws ++ x) (sym (drop-zeros m 64)) ∙ sym (filled-all f) in
+        all-read h ∙ rw n (same-answer (length ws) m (ws ++ replicate (64 - length ws) 0) o q k)
       where
         same-answer : (n₁ n₂ : ℕ) (w₁ w₂ : List ℕ) → n₁ ≡ n₂ → w₁ ≡ w₂
             → _≡_ {A = Compiled} (record { verdict = Good; count = n₁; words = w₁ }) (record { verdict = Good; count = n₂; words = w₂ })

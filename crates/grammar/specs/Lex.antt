@@ -1,16 +1,20 @@
--- Paper 01, "Expressions": the tokens of an expression's text, and their numbers.
+-- Paper 01, "Expressions": the tokens of an expression's text.
 -- "Tokens: words of letters, digits and `_`; `(`; `)`. Blanks separate. .. Every other word is a trigger name."
-use Prim.Native.Nat.{ℕ, suc}
+use Prim.Native.Nat.{ℕ}
 use mathlib.Core.Path.{_≡_}
 use mathlib.Core.Bool.{Bool, true, false, cond}
 use mathlib.Core.List.{List, [], _∷_, _++_}
-use lib.ListN.{take, drop}
 use Rattle.text.specs.Texts.{bytes, _▹_, same}
 use Rattle.text.specs.Kinds.{isBlank, isName}
 
-pub data Token : Type 0 where
-  word : List ℕ → Token
-  left right : Token
+-- A token: a name, one of the three operators, a bracket. A name is its bytes; the code has numbers for them.
+pub data Token (N : Type 0) : Type 0 where
+  word : N → Token N
+  AND OR NOT open′ close′ : Token N
+
+-- the token that a word is
+abbrev pub tokenOf : List ℕ → Token (List ℕ)
+tokenOf w = cond (same w (bytes "AND")) AND (cond (same w (bytes "OR")) OR (cond (same w (bytes "NOT")) NOT (word w)))
 
 -- letters, digits and `_` only
 abbrev pub Letters : List ℕ → Type 0
@@ -23,39 +27,18 @@ inWord [] = false
 inWord (b ∷ s) = isName b
 
 -- The text is made of these tokens, words as long as can be, and of blanks: any other byte is at fault.
-pub data Spells : List ℕ → List Token → Type 0 where
+pub data Spells : List ℕ → List (Token (List ℕ)) → Type 0 where
   over : Spells [] []
   blank :
-      (b : ℕ) {s : List ℕ} {ts : List Token}
+      (b : ℕ) {s : List ℕ} {ts : List (Token (List ℕ))}
       → isBlank b ≡ true
       → Spells s ts
       → Spells (b ∷ s) ts
-  opening : {s : List ℕ} {ts : List Token} → Spells s ts → Spells ("(" ▹ s) (left ∷ ts)
-  closing : {s : List ℕ} {ts : List Token} → Spells s ts → Spells (")" ▹ s) (right ∷ ts)
+  opening : {s : List ℕ} {ts : List (Token (List ℕ))} → Spells s ts → Spells ("(" ▹ s) (open′ ∷ ts)
+  closing : {s : List ℕ} {ts : List (Token (List ℕ))} → Spells s ts → Spells (")" ▹ s) (close′ ∷ ts)
   letters :
-      (b : ℕ) (w : List ℕ) {s : List ℕ} {ts : List Token}
+      (b : ℕ) (w : List ℕ) {s : List ℕ} {ts : List (Token (List ℕ))}
       → Letters (b ∷ w)
       → inWord s ≡ false
       → Spells s ts
-      → Spells ((b ∷ w) ++ s) (word (b ∷ w) ∷ ts)
-
--- The triggers' names as they stand in the file, each from a start up to an end (cut at the file's end): as many as have both, and at most
--- 32.
-unfoldable pub spans : List ℕ → List ℕ → List ℕ → List (List ℕ)
-spans file [] ends = []
-spans file (a ∷ starts) [] = []
-spans file (a ∷ starts) (e ∷ ends) = drop a (take e file) ∷ spans file starts ends
-
-unfoldable pub namesIn : List ℕ → List ℕ → List ℕ → List (List ℕ)
-namesIn file starts ends = take 32 (spans file starts ends)
-
--- the number of the first trigger of that name, counting from k; 37 where there is none
-unfoldable pub find : List (List ℕ) → List ℕ → ℕ → ℕ
-find [] w k = 37
-find (n ∷ names) w k = cond (same w n) k (find names w (suc k))
-
--- a token's number
-unfoldable pub numberOf : List (List ℕ) → Token → ℕ
-numberOf names (word w) = cond (same w (bytes "AND")) 32 (cond (same w (bytes "OR")) 33 (cond (same w (bytes "NOT")) 34 (find names w 0)))
-numberOf names left = 35
-numberOf names right = 36
+      → Spells ((b ∷ w) ++ s) (tokenOf (b ∷ w) ∷ ts)

@@ -1,14 +1,15 @@
--- The tokens of a text as a function, and what the contracts of the inner functions say. Nothing here need be believed: the theorem
--- `spelled` ties it to `Spells`.
-use Prim.Native.Nat.{ℕ, _+_, _-_, _≤_, _<_}
+-- The tokens of a text as a function, their numbers, and what the contracts of the inner functions say. Nothing here need be believed: the
+-- theorems `spelled` (proofs/Spelled.antt) and `compiled-becomes` (proofs/Ruled.antt) tie it to the rules.
+use Prim.Native.Nat.{ℕ, suc, _+_, _-_, _≤_, _<_}
 use mathlib.Core.Path.{_≡_}
 use mathlib.Core.Bool.{true, false, cond}
 use mathlib.Core.Option.{Option, none, some}
 use mathlib.Core.List.{List, [], _∷_, _++_, map}
-use lib.Dec.{leb}
-use lib.ListN.{length, drop, replicate}
+use lib.Dec.{leb, eqb}
+use lib.ListN.{length, take, drop, replicate}
+use Rattle.text.specs.Texts.{same}
 use Rattle.text.specs.Kinds.{among, isBlank, isName}
-use Rattle.grammar.specs.Lex.{Token, word, left, right, inWord, numberOf}
+use Rattle.grammar.specs.Lex.{Token, word, AND, OR, NOT, open′, close′, tokenOf}
 use Rattle.grammar.specs.declared.Lexed.{Lexed}
 use Rattle.grammar.specs.declared.Lexeme.{Lexeme}
 use Rattle.grammar.specs.declared.Lexeme.the-variants.{Next, Skip, Wrong}
@@ -17,20 +18,48 @@ abbrev pub putToken : {A : Type 0} → A → Option (List A) → Option (List A)
 putToken x none = none
 putToken x (some l) = some (x ∷ l)
 
--- one more byte of the word at the front
-abbrev pub grow : ℕ → Option (List Token) → Option (List Token)
-grow b none = none
-grow b (some []) = none
-grow b (some (word w ∷ l)) = some (word (b ∷ w) ∷ l)
-grow b (some (left ∷ l)) = none
-grow b (some (right ∷ l)) = none
+-- a word ends, if one was being read
+abbrev pub wordEnds : List ℕ → Option (List (Token (List ℕ))) → Option (List (Token (List ℕ)))
+wordEnds [] r = r
+wordEnds (b ∷ w) r = putToken (tokenOf (b ∷ w)) r
 
--- a byte of a word joins the word that follows it
-unfoldable pub lex : List ℕ → Option (List Token)
-lex [] = some []
-lex (b ∷ s) =
-    cond (isName b) (cond (inWord s) (grow b (lex s)) (putToken (word (b ∷ [])) (lex s)))
-    (cond (isBlank b) (lex s) (cond (among "(" b) (putToken left (lex s)) (cond (among ")" b) (putToken right (lex s)) none)))
+-- the tokens of a text, where the bytes w of a word were read before it
+unfoldable pub lexFrom : List ℕ → List ℕ → Option (List (Token (List ℕ)))
+lexFrom w [] = wordEnds w (some [])
+lexFrom w (b ∷ s) =
+    cond (isName b) (lexFrom (w ++ (b ∷ [])) s)
+    (wordEnds w (cond (isBlank b) (lexFrom [] s)
+    (cond (among "(" b) (putToken open′ (lexFrom [] s)) (cond (among ")" b) (putToken close′ (lexFrom [] s)) none))))
+
+unfoldable pub lex : List ℕ → Option (List (Token (List ℕ)))
+lex s = lexFrom [] s
+
+-- The triggers' names as they stand in the file, each from a start up to an end (cut at the file's end): as many as have both, and at most
+-- 32.
+unfoldable pub spans : List ℕ → List ℕ → List ℕ → List (List ℕ)
+spans file [] ends = []
+spans file (a ∷ starts) [] = []
+spans file (a ∷ starts) (e ∷ ends) = drop a (take e file) ∷ spans file starts ends
+
+unfoldable pub namesIn : List ℕ → List ℕ → List ℕ → List (List ℕ)
+namesIn file starts ends = take 32 (spans file starts ends)
+
+-- the number of the first trigger of that name, counting from k; 37 where there is none
+unfoldable pub find : List (List ℕ) → List ℕ → ℕ → ℕ
+find [] w k = 37
+find (n ∷ names) w k = cond (same w n) k (find names w (suc k))
+
+-- a token's number, and the token of a number
+unfoldable pub numberOf : List (List ℕ) → Token (List ℕ) → ℕ
+numberOf names (word w) = find names w 0
+numberOf names AND = 32
+numberOf names OR = 33
+numberOf names NOT = 34
+numberOf names open′ = 35
+numberOf names close′ = 36
+
+unfoldable pub numberedToken : ℕ → Token ℕ
+numberedToken n = cond (eqb n 32) AND (cond (eqb n 33) OR (cond (eqb n 34) NOT (cond (eqb n 35) open′ (cond (eqb n 36) close′ (word n)))))
 
 abbrev pub mapped : {A B : Type 0} → (A → B) → Option A → Option B
 mapped f none = none

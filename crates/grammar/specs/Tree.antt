@@ -3,57 +3,53 @@ use Prim.Native.Nat.{ℕ, suc, max}
 use mathlib.Core.Bool.{Bool, not, _&&_, _||_}
 use mathlib.Core.List.{List, [], _∷_, _++_}
 use Rattle.code.specs.Code.{Op, push, both, either, invert}
-
--- A token: a word that is a trigger's number or 37, one of the three operators, a bracket.
-pub data Tok : Type 0 where
-  word : ℕ → Tok
-  AND OR NOT open′ close′ : Tok
+use Rattle.grammar.specs.Lex.{Token, word, AND, OR, NOT, open′, close′}
 
 -- the operators of two operands
 pub data Operator : Type 0 where
   or and : Operator
 
--- "NOT binds tightest, then AND, then OR; equal operators group from the left."
+-- "NOT binds tightest, then AND, then OR; equal operators group from the left." N stands for names.
 mutual
   -- one operand, or what stands to the left of the last operator and the operand to its right
-  pub data Chain : Operator → Type 0 where
-    only : {b : Operator} → Operand b → Chain b
-    join : {b : Operator} → Chain b → Operand b → Chain b
+  pub data Chain (N : Type 0) : Operator → Type 0 where
+    only : {b : Operator} → Operand N b → Chain N b
+    join : {b : Operator} → Chain N b → Operand N b → Chain N b
 
-  pub data Operand : Operator → Type 0 where
-    chain : Chain and → Operand or
-    name : ℕ → Operand and
-    negate : Operand and → Operand and
-    bracket : Chain or → Operand and
+  pub data Operand (N : Type 0) : Operator → Type 0 where
+    chain : Chain N and → Operand N or
+    name : N → Operand N and
+    negate : Operand N and → Operand N and
+    bracket : Chain N or → Operand N and
 
-abbrev pub Expression : Type 0
-Expression = Chain or
+abbrev pub Expression : Type 0 → Type 0
+Expression N = Chain N or
 
 -- the grammar: an expression is what some tree prints to
-abbrev pub mark : Operator → Tok
+abbrev pub mark : {N : Type 0} → Operator → Token N
 mark or = OR
 mark and = AND
 
 unfoldable mutual
-  pub print : {b : Operator} → Chain b → List Tok
+  pub print : {N : Type 0} {b : Operator} → Chain N b → List (Token N)
   print (only x) = printed x
-  print {b} (join c x) = print c ++ (mark b ∷ printed x)
+  print {b = b} (join c x) = print c ++ (mark b ∷ printed x)
 
-  pub printed : {b : Operator} → Operand b → List Tok
+  pub printed : {N : Type 0} {b : Operator} → Operand N b → List (Token N)
   printed (chain c) = print c
-  printed (name i) = word i ∷ []
+  printed (name w) = word w ∷ []
   printed (negate x) = NOT ∷ printed x
   printed (bracket e) = open′ ∷ (print e ++ (close′ ∷ []))
 
 -- how deep brackets stand in one another
 unfoldable mutual
-  pub depth : {b : Operator} → Chain b → ℕ
+  pub depth : {N : Type 0} {b : Operator} → Chain N b → ℕ
   depth (only x) = deep x
   depth (join c x) = max (depth c) (deep x)
 
-  pub deep : {b : Operator} → Operand b → ℕ
+  pub deep : {N : Type 0} {b : Operator} → Operand N b → ℕ
   deep (chain c) = depth c
-  deep (name i) = 0
+  deep (name w) = 0
   deep (negate x) = deep x
   deep (bracket e) = suc (depth e)
 
@@ -63,28 +59,28 @@ joins or = _||_
 joins and = _&&_
 
 unfoldable mutual
-  pub mean : {b : Operator} → Chain b → (ℕ → Bool) → Bool
+  pub mean : {N : Type 0} {b : Operator} → Chain N b → (N → Bool) → Bool
   mean (only x) v = means x v
-  mean {b} (join c x) v = joins b (mean c v) (means x v)
+  mean {b = b} (join c x) v = joins b (mean c v) (means x v)
 
-  pub means : {b : Operator} → Operand b → (ℕ → Bool) → Bool
+  pub means : {N : Type 0} {b : Operator} → Operand N b → (N → Bool) → Bool
   means (chain c) v = mean c v
-  means (name i) v = v i
+  means (name w) v = v w
   means (negate x) v = not (means x v)
   means (bracket e) v = mean e v
 
--- "Code is postfix, left operand first"
+-- "Code is postfix, left operand first"; `num` has the names' numbers
 abbrev pub joiner : Operator → Op
 joiner or = either
 joiner and = both
 
 unfoldable mutual
-  pub code : {b : Operator} → Chain b → List Op
-  code (only x) = coded x
-  code {b} (join c x) = code c ++ (coded x ++ (joiner b ∷ []))
+  pub code : {N : Type 0} {b : Operator} → (N → ℕ) → Chain N b → List Op
+  code num (only x) = coded num x
+  code {b = b} num (join c x) = code num c ++ (coded num x ++ (joiner b ∷ []))
 
-  pub coded : {b : Operator} → Operand b → List Op
-  coded (chain c) = code c
-  coded (name i) = push i ∷ []
-  coded (negate x) = coded x ++ (invert ∷ [])
-  coded (bracket e) = code e
+  pub coded : {N : Type 0} {b : Operator} → (N → ℕ) → Operand N b → List Op
+  coded num (chain c) = code num c
+  coded num (name w) = push (num w) ∷ []
+  coded num (negate x) = coded num x ++ (invert ∷ [])
+  coded num (bracket e) = code num e

@@ -1,5 +1,5 @@
 -- A list that a loop fills from the front, and lists that go side by side.
-use Prim.Native.Nat.{ℕ, zero, suc, _+_, _≤_, _<_, min}
+use Prim.Native.Nat.{ℕ, zero, suc, _+_, _-_, _≤_, _<_, min}
 use mathlib.Core.Path.{_≡_, refl, sym, ap, _∙_}
 use mathlib.Core.List.{List, [], _∷_, _++_, zipWith, append-nil, append-assoc}
 use native.Mathlib.Omega.{arith}
@@ -7,6 +7,7 @@ use native.Mathlib.Numerals.{add-one}
 use native.Mathlib.Nat.{zero-min, suc-min-suc}
 use lib.ListN.{length, getD, set, take, drop, drop-of-length-le, length-append, length-drop, length-set, take-append-drop}
 use lib.Seq.{take-suc, take-all, take-nil, take-at, take-suc-set, drop-cons, drop-drop, drop-at, drop-set-lt, append-snoc, length-take-le, set-at, getD-at}
+use Rattle.lists.specs.FillsCode.{Filled}
 
 module _ {A : Type 0} where
   -- one element set: what stands before it, and behind it
@@ -16,13 +17,6 @@ module _ {A : Type 0} where
   pub set-behind : (e d : List A) (n : ℕ) (x : A) → drop n e ≡ drop n d → drop (n + 1) (set e n x) ≡ drop (n + 1) d
   set-behind e d n x r = drop-set-lt (n + 1) e n x (omega arith) ∙ sym (drop-drop 1 n e) ∙ ap (drop 1) r ∙ drop-drop 1 n d
 
-  -- d became e: the first n are new, and are `done`; the others are as they were
-  pub record Filled (done d e : List A) (n : ℕ) : Type 0 where
-    pub words : take n e ≡ done
-    pub rest : drop n e ≡ drop n d
-    pub long : length e ≡ length d
-    pub within : n ≤ length d
-
   pub filled-none : (d : List A) → Filled [] d d 0
   filled-none d = record { words = refl; rest = refl; long = refl; within = omega arith }
 
@@ -31,6 +25,9 @@ module _ {A : Type 0} where
 
   pub filled-take : {done d e : List A} {n : ℕ} → Filled done d e n → Filled (take n e) d e n
   filled-take f = record { words = refl; rest = f .rest; long = f .long; within = f .within }
+
+  pub filled-count : {done d e : List A} {n : ℕ} → Filled done d e n → length done ≡ n
+  filled-count {done} {d} {e} {n} f = sym (ap length (f .words)) ∙ length-take-le n e (omega (arith, f .long, f .within))
 
   pub filled-room : {done d e : List A} {n : ℕ} (m : ℕ) → Filled done d e n → m ≤ length d → m ≤ length e
   filled-room m f h = omega (arith, f .long)
@@ -44,6 +41,22 @@ module _ {A : Type 0} where
     long = length-set e n x ∙ f .long;
     within = omega arith;
   })
+
+  -- more behind what was filled before
+  pub filled-then : (more : List A) {done d e f : List A} {n m : ℕ} → Filled done d e n → Filled (take n e ++ more) e f m → n ≤ m
+      → Filled (done ++ more) d f m
+  filled-then more {done} {d} {e} {f} {n} {m} x y h = record {
+    words = y .words ∙ ap (λ (l : List A). l ++ more) (x .words);
+    rest = y .rest ∙ further;
+    long = y .long ∙ x .long;
+    within = omega (arith, y .within, x .long);
+  }
+    where
+      further : drop m e ≡ drop m d
+      further =
+          let q : n + (m - n) ≡ m = omega arith in
+          ap (λ (i : ℕ). drop i e) (sym q) ∙ sym (drop-drop (m - n) n e) ∙ ap (drop (m - n)) (x .rest) ∙ drop-drop (m - n) n d
+          ∙ ap (λ (i : ℕ). drop i d) q
 
   -- n more
   module _ (done d e : List A) (at : ℕ) (f : Filled done d e at) (w p : List A) (n : ℕ) (l : length w ≡ n) (h : at + n ≤ length d)

@@ -2,7 +2,7 @@
 use Prim.Native.Nat.{ℕ, suc, _+_, _-_, _≤_, _<_}
 use mathlib.Core.Path.{_≡_, refl}
 use mathlib.Core.List.{List}
-use mathlib.Core.Bool.{Bool, true, false, _&&_, false≢true}
+use mathlib.Core.Bool.{Bool, true, false, _&&_, _||_, false≢true, true≢false}
 use native.Mathlib.Omega.{arith}
 use native.Mathlib.Nat.{le-refl}
 use lib.ListN.{length, drop, take, length-drop}
@@ -15,6 +15,10 @@ and-left false b p = p
 pub and-right : (a b : Bool) → (a && b) ≡ true → b ≡ true
 and-right true b p = p
 and-right false b p = absurd (false≢true p)
+
+pub neither : (a b : Bool) → (a || b) ≡ false → (a ≡ false) × (b ≡ false)
+neither true b e = absurd (true≢false e)
+neither false b e = (refl, e)
 
 -- the fuel of a loop that counts i up to k
 pub fuel : (k i : ℕ) → i < k → k - i ≡ suc (k - (i + 1))

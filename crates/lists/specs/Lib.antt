@@ -1,3 +1,4 @@
--- `Lists` is what a reader must believe; FlagsCode serves contracts.
+-- `Lists` is what a reader must believe; the others serve contracts and invariants.
 pub mod Lists
 pub mod FlagsCode
+pub mod FillsCode

@@ -16,3 +16,8 @@ all p (x ∷ xs) = p x && all p xs
 unfoldable pub gathered : {X Y : Type 0} → (X → List Y) → List X → List Y
 gathered f [] = []
 gathered f (x ∷ xs) = f x ++ gathered f xs
+
+-- what p says holds of each of them
+unfoldable pub Every : {X : Type 0} → (X → Type 0) → List X → Type 0
+Every p [] = Unit {0}
+Every p (x ∷ xs) = p x × Every p xs

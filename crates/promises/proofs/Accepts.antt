@@ -1,110 +1,63 @@
 -- Demand 2: with room, a file is accepted exactly if it meets the rules; its plan holds exactly what they give; numbers are read to their
 -- last byte.
-use Prim.Native.Nat.{ℕ, _+_, _*_, _≤_, _<_}
+use Prim.Native.Nat.{ℕ, _≤_, _<_}
 use native.Mathlib.Omega.{arith}
-use mathlib.Core.Path.{_≡_, refl, sym, ap, _∙_}
-use mathlib.Core.Logic.{_⊎_, inl, inr}
+use mathlib.Core.Path.{_≡_, refl, sym, ap, _∙_, subst}
+use mathlib.Core.Logic.{_↔_}
 use mathlib.Core.List.{List, [], _∷_, _++_}
-use mathlib.Core.Bool.{Bool, true, false, true≢false, _&&_}
-use lib.Dec.{leb, ltb}
-use lib.ListN.{length, take, drop, take-append-drop}
-use borrow.Author.Tests.{lt-ltb, le-ltb, ltb-false}
+use mathlib.Core.Bool.{true}
+use lib.ListN.{length, take, drop}
+use lib.Seq.{take-append-seam}
+use Rattle.lists.specs.Lists.{Every}
 use Rattle.text.specs.Texts.{bytes, same}
-use Rattle.lists.proofs.Cases.{by-cases}
-use Rattle.text.proofs.Equal.{same-equal}
-use Rattle.shape.specs.Shape.{Node}
-use Rattle.values.specs.declared.Number.{Number}
-use Rattle.values.specs.declared.Number.the-variants.{Value, Nothing}
-use Rattle.values.specs.Values.{digit, digitsFrom, digits, numberSpelt}
-use Rattle.grammar.specs.declared.Compiled.{Compiled}
-use Rattle.grammar.specs.GrammarCode.{compiled}
-use Rattle.grammar.proofs.Ruled.{gives, gives-once}
-use Rattle.file_rules.specs.Element.{Fault, _at_if_}
-use Rattle.file_rules.specs.Document.{knownElements, elementFaults}
-use Rattle.document.proofs.Few.{append-none}
-use Rattle.file_rules.specs.Tables.{tablesOf, tableFaults}
+use Rattle.values.specs.Values.{IsNumber}
+use Rattle.schema.specs.Schema.{rulesOf}
+use Rattle.file_rules.specs.Element.{Known, ReadWhole, textOf, channelOf, goodOf}
+use Rattle.file_rules.specs.Document.{knownElements}
+use Rattle.element.proofs.Laws.{Clean}
+use Rattle.element.proofs.Whole.{whole-values, whole-channel}
+use Rattle.document.proofs.Stood.{All}
+use Rattle.converter.specs.declared.Converted.{Converted}
 use Rattle.converter.specs.declared.Converted.the-variants.{Words, Refused}
-use Rattle.converter.specs.Converter.{GivesAll, wordsFor, expressionFaults, faults, Converts}
-use Rattle.promises.specs.Promises.{Meets, AllDigits}
-use Rattle.lists.specs.Lists.{all}
+use Rattle.converter.specs.Converter.{Meets, Refuses, Converts, answered}
+use Rattle.converter.proofs.Once.{one-converted}
+use Rattle.read_back.proofs.Takes.{no-faults, cleans}
 
--- ---- faults of a document that meets the rules: none, or 13
-module _ (c : List ℕ → Compiled) (x : Node) where
-  abbrev before : List Fault
-  before = elementFaults x ++ (tableFaults (knownElements x) ++ expressionFaults c (knownElements x))
+module _ (s d : List ℕ) (r : Converted) (out ws : List ℕ) (h : Converts s d r out) where
+  pub accepted-so : Meets s ws → length ws ≤ length d → (r ≡ Words (length ws)) × (out ≡ ws ++ drop (length ws) d)
+  accepted-so m l = one-converted s d r (Words (length ws)) out (ws ++ drop (length ws) d) h (Converts.converts ws m l)
 
-  only-room : (room : ℕ) → before ≡ [] → faults c room x ≡ 13 at length (wordsFor c x) if ltb room (length (wordsFor c x))
-  unfolding faults
-  only-room room e =
-      let a = append-none (elementFaults x) (tableFaults (knownElements x) ++ expressionFaults c (knownElements x)) e in
-      let b = append-none (tableFaults (knownElements x)) (expressionFaults c (knownElements x)) (a .1) in
-      rw (a .0, b .0, b .1) refl
+  pub short-so : Meets s ws → length d < length ws → r ≡ Refused 13 (length ws)
+  short-so m l = one-converted s d r (Refused 13 (length ws)) out d h (Converts.refuses 13 (length ws) (Refuses.by-room ws m l refl refl)) .0
 
-  none-before : (room : ℕ) → faults c room x ≡ [] → (before ≡ []) × (length (wordsFor c x) ≤ room)
-  unfolding faults
-  none-before room e =
-      let last = 13 at length (wordsFor c x) if ltb room (length (wordsFor c x)) in
-      let a = append-none (elementFaults x) (tableFaults (knownElements x) ++ (expressionFaults c (knownElements x) ++ last)) e in
-      let b = append-none (tableFaults (knownElements x)) (expressionFaults c (knownElements x) ++ last) (a .1) in
-      let d = append-none (expressionFaults c (knownElements x)) last (b .1) in (
-        rw (a .0, b .0, d .0) refl,
-        by-cases (ltb room (length (wordsFor c x))) (λ t. absurd (omega (arith, ap length (rw t at (d .1)))))
-            (λ t. ltb-false room (length (wordsFor c x)) t),
-      )
+-- two lists of one length with the same words behind them are one list
+same-front : (vs ws a b : List ℕ) → length vs ≡ length ws → vs ++ a ≡ ws ++ b → vs ≡ ws
+same-front vs ws a b e q =
+    sym (take-append-seam vs a) ∙ (λ i. take (e i) (q i)) ∙ take-append-seam ws b
 
-module _ (s d : List ℕ) (x : Node) (c : List ℕ → Compiled) (m : Meets s x c) where
-  pub converts-all : length (wordsFor c x) ≤ length d
-      → Converts s d (Words (length (wordsFor c x))) (wordsFor c x ++ drop (length (wordsFor c x)) d)
-  converts-all h =
-      Converts.converted x (m .short) (m .spells) c (m .rules)
-      (only-room c x (length d) (m .faultless) ∙ rw (le-ltb (length d) (length (wordsFor c x)) h) refl)
-
-  pub converts-none : length d < length (wordsFor c x) → Converts s d (Refused 13 (length (wordsFor c x))) d
-  converts-none h =
-      Converts.faulty x (m .short) (m .spells) c (m .rules) (record { number = 13; place = length (wordsFor c x) }) []
-      (only-room c x (length d) (m .faultless) ∙ rw (lt-ltb (length d) (length (wordsFor c x)) h) refl)
-
-pub meets : (s d : List ℕ) (n : ℕ) (out : List ℕ) → Converts s d (Words n) out
-    → (x : Node) × (c : List ℕ → Compiled) × Meets s x c × (n ≡ length (wordsFor c x)) × (n ≤ length d)
-meets s d n out (Converts.converted x short w c g e) =
-    let a = none-before c x (length d) e in
-    (x, c, record { short = short; spells = w; rules = g; faultless = a .0 }, refl, a .1)
-
--- ---- what the rules of expressions give
-pub some-rules : (x : Node) → (c : List ℕ → Compiled) × GivesAll x c
-some-rules x = (compiled (tablesOf (knownElements x) .names), λ t. gives (tablesOf (knownElements x) .names) t)
-
-pub one-rules : (x : Node) (c c′ : List ℕ → Compiled) → GivesAll x c → GivesAll x c′ → c ≡ c′
-one-rules x c c′ g h = λ i t. gives-once (g t) (h t) i
-
--- ---- numbers
-nothing-not : (v : ℕ) → Nothing ≡ Value v → ⊥
-nothing-not v e = absurd (true≢false (ap isNothing e))
+pub meets-so : (s d : List ℕ) (r : Converted) (out ws : List ℕ) → Converts s d r out → r ≡ Words (length ws) → out ≡ ws ++ drop (length ws) d
+    → Meets s ws
+meets-so s d r out ws (Converts.refuses n p a) e q = absurd (refused-not n p (length ws) e)
   where
-    isNothing : Number → Bool
-    isNothing Nothing = true
-    isNothing (Value w) = false
+    refused-not : (n p m : ℕ) → Refused n p ≡ Words m → ⊥
+    refused-not n p m g = let z : _≡_ {A = ℕ} 0 1 = cc in omega arith
+meets-so s d r out ws (Converts.converts vs m l) e q =
+    subst (Meets s) (same-front vs ws (drop (length vs) d) (drop (length ws) d) (ap (λ (x : Converted). answered x .1) e) q) m
 
-digits-all : (base v : ℕ) (s : List ℕ) (w : ℕ) → digitsFrom base v s ≡ Value w → all (λ b. ltb (digit b) base) s ≡ true
-unfolding digitsFrom all
-digits-all base v [] w e = refl
-digits-all base v (b ∷ s) w e =
-    by-cases (ltb (digit b) base) (λ t. rw t (digits-all base (v * base + digit b) s w (rw (t, digitsFrom) at e)))
-    (λ t. absurd (nothing-not w (rw (t, digitsFrom) at e)))
+pub meets-then : (s d : List ℕ) (n : ℕ) (out : List ℕ) → Converts s d (Words n) out → (ws : List ℕ) × Meets s ws × (n ≡ length ws)
+meets-then s d n out (Converts.converts ws m l) = (ws, m, refl)
 
-digits-only : (base n : ℕ) (s : List ℕ) (w : ℕ) → digits base n s ≡ Value w → AllDigits base s
-unfolding digits
-digits-only base n s w e =
-    by-cases (leb 1 (length s) && leb (length s) n) (λ t. digits-all base 0 s w (rw t at e)) (λ t. absurd (nothing-not w (rw t at e)))
+-- ---- every number of a file that meets the rules
+abbrev pub ReadsWhole : Known → Type 0
+ReadsWhole k =
+    Every (ReadWhole k) (rulesOf (k .name)) × (same (k .name) (bytes "CHANNEL") ≡ true → IsNumber (textOf k) (goodOf (channelOf k)))
 
-pub to-the-last : (t : List ℕ) (v : ℕ) → numberSpelt t ≡ Value v → AllDigits 10 t ⊎ ((h : List ℕ) × (t ≡ bytes "0x" ++ h) × AllDigits 16 h)
-unfolding numberSpelt
-to-the-last t v e =
-    by-cases (same (take 2 t) (bytes "0x"))
-    (λ y. inr (
-      drop 2 t,
-      sym (take-append-drop 2 t)
-          ∙ ap (λ (h : List ℕ). h ++ drop 2 t) (same-equal (take 2 t) (bytes "0x") y),
-      digits-only 16 8 (drop 2 t) v (rw y at e),
-    ))
-    (λ y. inl (digits-only 10 10 t v (rw y at e)))
+read-all : (ks : List Known) → All Clean ks → Every ReadsWhole ks
+unfolding Every
+read-all [] c = tt
+read-all (k ∷ ks) c = ((whole-values k (c .0), whole-channel k (c .0)), read-all ks (c .1))
+
+pub whole-so : (s ws : List ℕ) (m : Meets s ws) → Every ReadsWhole (knownElements (m .document))
+whole-so s ws m =
+    let f = no-faults (m .document) (m .statements) (m .faultless) in
+    read-all (knownElements (m .document)) (cleans (m .document) (f .0) (f .1))

@@ -1,43 +1,30 @@
 -- The checks by hand, computed.
+use Prim.Native.Nat.{ℕ}
+use native.Mathlib.Omega.{arith}
 use mathlib.Core.Path.{refl}
-use mathlib.Core.List.{zipWith}
+use mathlib.Core.List.{List, zipWith}
 use lib.ListN.{take}
 use Rattle.text.specs.Texts.{bytes, same}
 use Rattle.text.specs.Kinds.{isBlank, isStart, isDigit, isName}
 use Rattle.values.specs.Values.{digit, digitsFrom, digits, numberSpelt}
 use Rattle.code.specs.Code.{wordOf}
-use Rattle.grammar.specs.Lex.{find, numberOf}
-use Rattle.grammar.specs.TokensCode.{lex, numbers}
+use Rattle.grammar.specs.TokensCode.{lexFrom, lex, find, numberOf, numberedToken, numbers}
 use Rattle.grammar.specs.Tree.{code}
-use Rattle.grammar.specs.Outcome.{tokenOf, verdictRefusal}
-use Rattle.grammar.specs.GrammarCode.{readChain, parseChain, allNamed, compiledFrom, compiled}
-use Rattle.grammar.proofs.Ruled.{gives}
+use Rattle.grammar.specs.Outcome.{Becomes}
+use Rattle.grammar.specs.GrammarCode.{readChain, parseChain, allNamed, verdictRefusal, compiledFrom, compiled}
+use Rattle.grammar.proofs.Ruled.{compiled-becomes}
 use Rattle.event_rules.specs.Rules.{matches, filtersOn, firstMatch, passes, fires, states, firings}
-use Rattle.promises.specs.Promises.{Every}
+use Rattle.lists.specs.Lists.{Every}
 use Rattle.promises.specs.Checks.{abc, Holds, table}
 
+-- what becomes of a text is what `compile` answers, which is computed
+given : (text : List ℕ)
+    → Becomes abc text (verdictRefusal (compiled abc text .verdict)) (take (compiled abc text .count) (compiled abc text .words))
+given text = compiled-becomes abc text (omega arith)
+
 pub hand-checks : Every Holds table
-unfolding Every table bytes same isBlank isStart isDigit isName find numberOf lex numbers tokenOf compiled compiledFrom parseChain readChain
-    allNamed code wordOf digit digitsFrom digits numberSpelt matches filtersOn firstMatch passes fires states firings zipWith
-hand-checks = (
-  (compiled abc (bytes "a OR b AND NOT c"), gives abc (bytes "a OR b AND NOT c"), refl, refl),
-  (
-    (compiled abc (bytes "(a OR b) AND c"), gives abc (bytes "(a OR b) AND c"), refl, refl),
-    (
-      (compiled abc (bytes "NOT NOT a"), gives abc (bytes "NOT NOT a"), refl, refl),
-      (
-        (compiled abc (bytes ""), gives abc (bytes ""), refl, refl),
-        (
-          (compiled abc (bytes "a AND"), gives abc (bytes "a AND"), refl, refl),
-          (
-            (compiled abc (bytes "a b"), gives abc (bytes "a b"), refl, refl),
-            (
-              (compiled abc (bytes "d"), gives abc (bytes "d"), refl, refl),
-              (refl, (refl, (refl, (refl, (refl, (refl, (refl, (refl, tt)))))))),
-            ),
-          ),
-        ),
-      ),
-    ),
-  ),
-)
+unfolding Every table bytes same isBlank isStart isDigit isName find numberOf numberedToken lexFrom lex numbers compiled compiledFrom
+    parseChain readChain allNamed code wordOf digit digitsFrom digits numberSpelt matches filtersOn firstMatch passes fires states firings
+    zipWith
+hand-checks =
+    (given _, (given _, (given _, (given _, (given _, (given _, (given _, (refl, (refl, (refl, (refl, (refl, (refl, (refl, (refl, tt)))))))))))))))

@@ -3,22 +3,21 @@ use Prim.Native.Nat.{ℕ}
 use Prim.Native.String.{String}
 use mathlib.Core.Path.{_≡_}
 use mathlib.Core.Option.{Option, none, some}
-use mathlib.Core.List.{List, [], _∷_}
+use mathlib.Core.List.{List, [], _∷_, map}
 use mathlib.Core.Bool.{Bool, true, false}
-use lib.ListN.{take, replicate}
+use lib.ListN.{replicate}
 use Rattle.text.specs.Texts.{bytes}
 use Rattle.values.specs.declared.Number.{Number}
 use Rattle.values.specs.declared.Number.the-variants.{Value, Nothing}
 use Rattle.values.specs.Values.{numberSpelt}
-use Rattle.grammar.specs.declared.Compiled.{Compiled}
-use Rattle.grammar.specs.Outcome.{Gives, verdictRefusal}
+use Rattle.grammar.specs.Outcome.{Becomes}
 use Rattle.records.specs.declared.Cause.the-variants.{Id}
 use Rattle.records.specs.declared.Timeout.the-variants.{Ms}
 use Rattle.records.specs.declared.Trigger.{Trigger}
 use Rattle.records.specs.declared.Effect.the-variants.{Pass, Stop}
 use Rattle.records.specs.declared.Filter.{Filter}
 use Rattle.event_rules.specs.Rules.{Event, frame, tick, passes, states, firings}
-use Rattle.event_rules.specs.Calls.{fresh}
+use Rattle.event_rules.specs.Calls.{fresh, filterRule}
 
 -- "with a, b, c as 0, 1, 2"
 abbrev pub abc : List (List ℕ)
@@ -49,9 +48,9 @@ pub data Check : Type 0 where
   time : ℕ → Bool → Check
 
 abbrev pub Holds : Check → Type 0
-Holds (expression t r ws) = (c : Compiled) × Gives abc (bytes t) c × (verdictRefusal (c .verdict) ≡ r) × (take (c .count) (c .words) ≡ ws)
+Holds (expression t r ws) = Becomes abc (bytes t) r ws
 Holds (spelling t v) = numberSpelt (bytes t) ≡ v
-Holds (identifier id b) = passes passAndStop (idFrame 0 id) ≡ b
+Holds (identifier id b) = passes (map filterRule passAndStop) (idFrame 0 id) ≡ b
 Holds (time u b) = stateAt u ≡ b ∷ []
 
 unfoldable pub table : List Check

@@ -1,16 +1,16 @@
 -- Every number and place that `convert` answers fits in 32 bits: a place is an offset in the file or a number of words.
-use Prim.Native.Nat.{ℕ, suc, _+_, _*_, _^_, _≤_, _<_}
+use Prim.Native.Nat.{ℕ, _+_, _*_, _^_, _≤_, _<_}
 use native.Mathlib.Omega.{arith}
 use native.Mathlib.Nat.{suc-mul}
 use mathlib.Core.Path.{_≡_, refl, ap, subst}
-use mathlib.Core.Option.{Option, none, some}
-use mathlib.Core.List.{List, [], _∷_, _++_, map, head-eq-of-cons-eq}
+use mathlib.Core.Option.{Option, none, some, Option·none-ne-some}
+use mathlib.Core.List.{List, [], _∷_, _++_, map}
 use mathlib.Core.Bool.{Bool, true, false, _&&_, _||_}
-use lib.Dec.{leb, ltb, eqb}
+use lib.Dec.{leb, eqb}
 use lib.ListN.{length, length-append, length-map}
 use borrow.Author.Tests.{leb-true}
 use Rattle.text.specs.Texts.{same}
-use Rattle.lists.proofs.Cases.{by-cases}
+use Rattle.lists.proofs.Cases.{by-cases, same-pair}
 use Rattle.shape.specs.declared.Shape.{Shape}
 use Rattle.shape.specs.declared.Shape.the-variants.{Whole, TooLong, Broken}
 use Rattle.shape.specs.Shape.{Node, node, WellShaped, Shaped, shapeRefusal}
@@ -21,18 +21,15 @@ use Rattle.code.specs.Code.{soundCode}
 use Rattle.loader.specs.Plan.{Plan, wordsOf, statementIn, inRange}
 use Rattle.loader.proofs.RecordLaws.{cause-long}
 use Rattle.schema.specs.Schema.{oneOf, under, rulesOf}
-use Rattle.grammar.specs.declared.Verdict.{Verdict}
-use Rattle.grammar.specs.declared.Verdict.the-variants as verdicts
-use Rattle.grammar.specs.declared.Compiled.{Compiled}
-use Rattle.grammar.specs.Outcome.{verdictRefusal}
-use Rattle.file_rules.specs.Element.{Known, Fault, _at_if_, worthBy, isBad, isNotCarried, textOf, tooMany, misfit, crossed, misworded, ownFaults}
+use Rattle.grammar.specs.Outcome.{Becomes}
+use Rattle.file_rules.specs.Element.{Known, Fault, _at_if_, worthBy, isBad, isNotCarried, tooMany, misfit, crossed, misworded, ownFaults}
 use Rattle.file_rules.specs.Reading.{is}
 use Rattle.file_rules.specs.Document.{knownElements, placeOf, lacks, elementFaults}
 use Rattle.document.proofs.Stood.{Stood, All, all-stood}
-use Rattle.file_rules.specs.Tables.{kept, isIn, within, nameOf, expressionsOf, tablesOf, usedNames, gap, channelNamed, channelsIn, tableFaults}
+use Rattle.file_rules.specs.Tables.{kept, isIn, within, nameOf, expressionsOf, expressionOf, namesOf, usedNames, gap, channelNamed, channelsIn, tableFaults}
 use Rattle.tables.proofs.Nested.{nested-known, all-mapped, all-within, all-kept}
 use Rattle.converter.specs.declared.Converted.the-variants.{Words, Refused}
-use Rattle.converter.specs.Converter.{planFor, wordsFor, faultOf, expressionFaults, faults, GivesAll, Converts}
+use Rattle.converter.specs.Converter.{planFor, faultOf, Composes, Judged, Meets, Refuses, Converts}
 use Rattle.read_back.proofs.Takes.{in-range, no-faults}
 use Rattle.lists.specs.Lists.{any, all, gathered}
 use Rattle.lists.proofs.Parts.{and-left, and-right}
@@ -88,11 +85,6 @@ module _ (t : ℕ) where
   placed-kept : (p : Known → Bool) (ks : List Known) → All Placed ks → All Placed (kept p ks)
   placed-kept p ks y = all-mapped (λ k. (p k ≡ true) × Placed k) Placed (λ k z. z .1) (kept p ks) (all-kept Placed p ks y)
 
-  verdict-low : (v : Verdict) (p : ℕ) → p ≤ t → Lows t (faultOf (verdictRefusal v) p)
-  verdict-low verdicts.Good p h = tt
-  verdict-low verdicts.Broken p h = ((omega arith, omega arith, h), tt)
-  verdict-low verdicts.Unknown p h = ((omega arith, omega arith, h), tt)
-
   -- ---- all faults of a document whose elements stand up to t
   module _ (x : Node) (root : placeOf x ≤ t) (placed : All Placed (knownElements x)) where
     abbrev ks : List Known
@@ -123,17 +115,29 @@ module _ (t : ℕ) where
         (low-all channel ks (all-mapped Placed (λ k. Lows t (channel k))
         (λ k z. low-if 10 (k .place) (any (leb (length cs)) (channelNamed k)) (omega arith) (omega arith) z) ks placed)))
 
-    pub expression-low : (c : List ℕ → Compiled) → Lows t (expressionFaults c ks)
-    unfolding expressionFaults
-    expression-low c =
-        let one : Known → List Fault = λ e. faultOf (verdictRefusal (c (textOf e) .verdict)) (e .place) in
-        let inner : Known → List Fault = λ k. gathered one (expressionsOf k) in
+    pub expressions-low : All (λ k. All Placed (expressionsOf k)) (kept (is "STATEMENT") ks)
+    expressions-low =
         let h : All (λ k. All Placed (within k)) ks = all-within Placed (under []) ks (nested-known x) placed in
-        low-all inner (kept (is "STATEMENT") ks)
-        (all-mapped (λ k. (is "STATEMENT" k ≡ true) × All Placed (within k)) (λ k. Lows t (inner k))
-        (λ k z. low-all one (expressionsOf k) (all-mapped Placed (λ e. Lows t (one e))
-        (λ e g. verdict-low (c (textOf e) .verdict) (e .place) g) (expressionsOf k) (placed-kept (is "EXPRESSION") (within k) (z .1))))
-        (kept (is "STATEMENT") ks) (all-kept (λ k. All Placed (within k)) (is "STATEMENT") ks h))
+        all-mapped (λ k. (is "STATEMENT" k ≡ true) × All Placed (within k)) (λ k. All Placed (expressionsOf k))
+        (λ k z. placed-kept (is "EXPRESSION") (within k) (z .1)) (kept (is "STATEMENT") ks)
+        (all-kept (λ k. All Placed (within k)) (is "STATEMENT") ks h)
+
+  -- ---- an expression is refused by 11 or 12
+  refusal-low : (names : List (List ℕ)) (text : List ℕ) (r : Option ℕ) (code : List ℕ) → Becomes names text r code → (p : ℕ) → p ≤ t
+      → Lows t (faultOf r p)
+  refusal-low names text r code (Becomes.breaks h) p g = ((omega arith, omega arith, g), tt)
+  refusal-low names text r code (Becomes.unnamed e h n) p g = ((omega arith, omega arith, g), tt)
+  refusal-low names text r code (Becomes.compiles e h n) p g = tt
+
+  composed-low : (names : List (List ℕ)) (ks : List Known) (fs : List Fault) (ss : List PlanStatement) → Composes names ks fs ss
+      → All (λ k. All Placed (expressionsOf k)) ks → Lows t fs
+  composed-low names [] fs ss Composes.over y = tt
+  composed-low names (k ∷ ks) fs ss (Composes.next k₁ r code ks₁ gs ts b m) y =
+      low-both (gathered (λ e. faultOf r (e .place)) (expressionsOf k)) gs
+      (low-all (λ e. faultOf r (e .place)) (expressionsOf k)
+      (all-mapped Placed (λ e. Lows t (faultOf r (e .place))) (λ e g. refusal-low names (expressionOf k) r code b (e .place) g)
+      (expressionsOf k) (y .0)))
+      (composed-low names ks gs ts m (y .1))
 
 -- ---- the elements of a file stand in it
 root-place : (s : List ℕ) (x : Node) → WellShaped s x → placeOf x ≤ length s
@@ -148,13 +152,16 @@ known-places s x w =
     (knownElements x) (all-stood s x w)
 
 -- every fault of the elements, the tables and the expressions stands in the file
-pub in-file : (s : List ℕ) (x : Node) → WellShaped s x → (c : List ℕ → Compiled)
-    → Lows (length s) (elementFaults x) × Lows (length s) (tableFaults (knownElements x))
-    × Lows (length s) (expressionFaults c (knownElements x))
-in-file s x w c =
+pub in-file : (s : List ℕ) (x : Node) → WellShaped s x → (fs : List Fault) (ss : List PlanStatement) → Judged x fs ss → Lows (length s) fs
+in-file s x w fs ss j =
+    let t = length s in
+    let ks = knownElements x in
     let root = root-place s x w in
     let placed = known-places s x w in
-    (element-low (length s) x root placed, table-low (length s) x root placed, expression-low (length s) x root placed c)
+    rw (j .in-order)
+    (low-both t (elementFaults x) (tableFaults ks ++ j .late) (element-low t x root placed)
+    (low-both t (tableFaults ks) (j .late) (table-low t x root placed)
+    (composed-low t (namesOf ks) (kept (is "STATEMENT") ks) (j .late) ss (j .composed) (expressions-low t x root placed))))
 
 low-up : (t u : ℕ) → t ≤ u → (l : List Fault) → Lows t l → Lows u l
 low-up t u h [] y = tt
@@ -237,54 +244,38 @@ plan-top p h =
     let c = row-top statementWords (statementIn (length (p .triggers))) 73 (statement-top (length (p .triggers))) (p .statements) (r .5) in
     omega (arith, length-append triggers (filters ++ statements), length-append filters statements, a, b, c, r .0, r .1, r .2)
 
--- ---- the first fault
-first-low : (t : ℕ) (es ts cs ls : List Fault) → Lows t es → Lows t ts → Lows t cs → (es ≡ [] → ts ≡ [] → cs ≡ [] → Lows t ls)
-    → (a : Fault) (l : List Fault) → es ++ (ts ++ (cs ++ ls)) ≡ a ∷ l → Low t a
-first-low t (b ∷ es) ts cs ls x y z w a l e = subst (Low t) (head-eq-of-cons-eq e) (x .0)
-first-low t [] (b ∷ ts) cs ls x y z w a l e = subst (Low t) (head-eq-of-cons-eq e) (y .0)
-first-low t [] [] (b ∷ cs) ls x y z w a l e = subst (Low t) (head-eq-of-cons-eq e) (z .0)
-first-low t [] [] [] (b ∷ ls) x y z w a l e = subst (Low t) (head-eq-of-cons-eq e) ((w refl refl refl) .0)
-first-low t [] [] [] [] x y z w a l e = absurd (omega (arith, ap length e))
-
-fault-low : (s : List ℕ) (x : Node) → length s ≤ 32768 → WellShaped s x → (c : List ℕ → Compiled) → GivesAll x c
-    → (room : ℕ) (a : Fault) (l : List Fault) → faults c room x ≡ a ∷ l → Low 32768 a
-unfolding faults
-fault-low s x short w c g room a l q =
-    let es = elementFaults x in
-    let ts = tableFaults (knownElements x) in
-    let cs = expressionFaults c (knownElements x) in
-    let n = length (wordsFor c x) in
-    let y = in-file s x w c in
-    let up : (fs : List Fault) → Lows (length s) fs → Lows 32768 fs = low-up (length s) 32768 short in
-    first-low 32768 es ts cs (13 at n if ltb room n) (up es (y .0)) (up ts (y .1)) (up cs (y .2))
-    (λ e h v. let m = plan-top (planFor c (tablesOf (knownElements x))) (in-range x e h c g v) in
-    low-if 32768 13 n (ltb room n) (omega arith) (omega arith) (omega (arith, m))) a l q
+-- ---- the plan of a file that meets the rules
+pub meets-top : (s ws : List ℕ) → Meets s ws → length ws ≤ 1590
+meets-top s ws m =
+    let f = no-faults (m .document) (m .statements) (m .faultless) in
+    let p = plan-top (planFor (m .statements) (knownElements (m .document)))
+    (in-range (m .document) (f .0) (f .1) (m .statements) (f .2)) in
+    omega (arith, p, ap length (m .words))
 
 -- ---- refusals 1 and 2
-abbrev pairIn : ℕ × ℕ → Option (ℕ × ℕ) → ℕ × ℕ
-pairIn d none = d
-pairIn d (some y) = y
-
 shape-low : (s : List ℕ) (a : Shape) (n p : ℕ) → Shaped s a → shapeRefusal a ≡ some (n, p) → (1 ≤ n) × (n ≤ 13) × (p ≤ 32768)
-shape-low s Whole n p h e = let g : suc n ≡ n = ap (λ o. pairIn (suc n, p) o .0) e in absurd (omega (arith, g))
+shape-low s Whole n p h e = absurd (Option·none-ne-some (n, p) e)
 shape-low s TooLong n p h e =
-    let g : 1 ≡ n = ap (λ o. pairIn (n, p) o .0) e in
-    let k : 32768 ≡ p = ap (λ o. pairIn (n, p) o .1) e in
-    (omega (arith, g), omega (arith, g), omega (arith, k))
+    let g = same-pair _ refl e in
+    (omega (arith, g .0), omega (arith, g .0), omega (arith, g .1))
 shape-low s (Broken q) n p h e =
-    let g : 2 ≡ n = ap (λ o. pairIn (n, p) o .0) e in
-    let k : q ≡ p = ap (λ o. pairIn (n, p) o .1) e in
-    (omega (arith, g), omega (arith, g), omega (arith, k, h .0, h .1 .1 .within))
+    let g = same-pair _ refl e in
+    (omega (arith, g .0), omega (arith, g .0), omega (arith, g .1, h .0, h .1 .1 .within))
 
 -- ---- what `convert` answers: refusals 1 to 13, at a place of a file or the length of a plan
+pub refusal-top : (s : List ℕ) (room n p : ℕ) → Refuses s room n p → (1 ≤ n) × (n ≤ 13) × (p ≤ 32768)
+refusal-top s room n p (Refuses.by-shape a h e) = shape-low s a n p h e
+refusal-top s room n p (Refuses.by-fault x l ss short w j) =
+    low-up (length s) 32768 short (record { number = n; place = p } ∷ l) (in-file s x w (record { number = n; place = p } ∷ l) ss j) .0
+refusal-top s room n p (Refuses.by-room ws m r e g) =
+    let t = meets-top s ws m in
+    (omega (arith, e), omega (arith, e), omega (arith, g, t))
+
 pub places : (s d : List ℕ) (n p : ℕ) (e : List ℕ) → Converts s d (Refused n p) e → (1 ≤ n) × (n ≤ 13) × (p ≤ 32768)
-places s d n p e (Converts.shapeless a m q h g) = shape-low s a n p h g
-places s d n p e (Converts.faulty x short w c g a l q) = fault-low s x short w c g (length d) a l q
+places s d n p e (Converts.refuses m q h) = refusal-top s (length d) n p h
 
 pub lengths : (s d : List ℕ) (n : ℕ) (e : List ℕ) → Converts s d (Words n) e → n ≤ 1590
-lengths s d n e (Converts.converted x short w c g q) =
-    let f = no-faults c (length d) x q in
-    plan-top (planFor c (tablesOf (knownElements x))) (in-range x (f .0) (f .1) c g (f .2))
+lengths s d n e (Converts.converts ws m l) = meets-top s ws m
 
 pub fits : (s d : List ℕ) (n p : ℕ) (e : List ℕ) → Converts s d (Refused n p) e → (n ≤ 13) × (p < 4294967296)
 fits s d n p e h = let g = places s d n p e h in (g .1, omega (arith, g .2))

@@ -1,37 +1,28 @@
 -- What an element without faults says lies in the loader's ranges.
-use Prim.Native.Nat.{ℕ, zero, suc, _+_, _-_, _^_, _≤_, _<_, pow·suc}
+use Prim.Native.Nat.{ℕ, _≤_}
 use Prim.Native.String.{String}
 use native.Mathlib.Omega.{arith}
 use mathlib.Core.Path.{_≡_, refl, sym, ap, _∙_}
 use mathlib.Core.List.{List, [], _∷_}
 use mathlib.Core.Bool.{Bool, true, false, not, cond, true≢false, _&&_, _||_}
 use lib.Dec.{leb, ltb, eqb}
-use borrow.Author.Tests.{leb-true, leb-false, le-leb, ltb-false, lt-ltb, eqb-true, eqb-false, eq-eqb, ne-eqb, not-false}
+use borrow.Author.Tests.{leb-false, le-leb, ltb-false, lt-ltb, eqb-false, eq-eqb, not-false}
 use Rattle.text.specs.Texts.{bytes, same}
 use Rattle.lists.proofs.Cases.{by-cases}
 use Rattle.text.proofs.Equal.{same-equal}
-use Rattle.values.specs.declared.Number.{Number}
-use Rattle.values.specs.declared.Number.the-variants.{Value, Nothing}
 use Rattle.values.specs.declared.Sort.the-variants.{Numeric, Timeout, YesNo}
 use Rattle.values.specs.Values.{numberSpelt, ranged, eitherWord, worthOf}
 use Rattle.records.specs.Records.{dlcTop, timeoutIn, idTop, triggerIn, filterIn}
 use Rattle.records.specs.declared.Timeout.the-variants.{Forever, Ms}
 use Rattle.schema.specs.Schema.{Rule, _to_, elements, rulesIn, rulesOf, parentIn, parents}
-use Rattle.element.proofs.Gathers.{neither}
 use Rattle.file_rules.specs.Element.{Known, goodOf, worthBy, givenValue, valueOf, given, has, repeated, misfit, crossed}
 use Rattle.file_rules.specs.Reading.{is, triggerOf, filterOf}
-use Rattle.file_rules.specs.Tables.{isIn, sumFrom, channelNamed}
+use Rattle.file_rules.specs.Tables.{isIn, channelNamed}
+use Rattle.tables.proofs.Readings.{ranged-top}
 use Rattle.lists.specs.Lists.{any}
-use Rattle.lists.proofs.Parts.{and-left, and-right}
+use Rattle.lists.proofs.Parts.{and-left, and-right, neither}
 
 -- ---- no value is above its range
-ranged-top : (lo hi most : ℕ) (n : Number) → goodOf (ranged lo hi most n) ≤ hi
-ranged-top lo hi most Nothing = omega arith
-ranged-top lo hi most (Value v) =
-    by-cases (leb lo v && leb v hi)
-    (λ t. by-cases (leb v most) (λ s. rw (t, s) (leb-true v hi (and-right (leb lo v) (leb v hi) t))) (λ s. rw (t, s) (omega arith)))
-    (λ t. rw t (omega arith))
-
 number-top : (lo hi most : ℕ) (t : List ℕ) → goodOf (worthOf (Numeric lo hi most) t) ≤ hi
 unfolding worthOf
 number-top lo hi most t = ranged-top lo hi most (numberSpelt t)
@@ -40,16 +31,25 @@ flag-top : (t : List ℕ) → goodOf (worthOf (YesNo 1) t) ≤ 1
 unfolding worthOf
 flag-top t = ranged-top 0 1 1 (eitherWord (bytes "NO") (bytes "YES") t)
 
-timeout-top : (t : List ℕ) → timeoutIn (cond (eqb (goodOf (worthOf Timeout t)) 4294967295) Forever (Ms (goodOf (worthOf Timeout t)))) ≡ true
+timeout-top : (t : List ℕ) → timeoutIn (cond (same t (bytes "-1")) Forever (Ms (goodOf (worthOf Timeout t)))) ≡ true
 unfolding worthOf
 timeout-top t =
     by-cases (same t (bytes "-1")) (λ s. rw s refl)
     (λ s. let h = ranged-top 0 1000000000 1000000000 (numberSpelt t) in
-    rw (s, ne-eqb (goodOf (ranged 0 1000000000 1000000000 (numberSpelt t))) 4294967295 (λ e. absurd (omega (arith, h, e))))
-    (le-leb (goodOf (ranged 0 1000000000 1000000000 (numberSpelt t))) 1000000000 h))
+    rw s (le-leb (goodOf (ranged 0 1000000000 1000000000 (numberSpelt t))) 1000000000 h))
 
-third : (a b c d e : Bool) → (a || b || c || d || e) ≡ false → c ≡ false
-third a b c d e h = (neither (a || b) c ((neither (a || b || c) d ((neither (a || b || c || d) e h) .0)) .0)) .1
+last-three : (a b c d e : Bool) → (a || b || c || d || e) ≡ false → (c ≡ false) × (d ≡ false) × (e ≡ false)
+last-three a b c d e h =
+    let y = neither (a || b || c || d) e h in
+    let z = neither (a || b || c) d (y .0) in
+    ((neither (a || b) c (z .0)) .1, z .1, y .1)
+
+-- neither one without the other
+together : (a b : Bool) → a && not b ≡ false → b && not a ≡ false → a ≡ b
+together true true h g = refl
+together true false h g = absurd (true≢false h)
+together false true h g = absurd (true≢false g)
+together false false h g = refl
 
 -- ---- what a fit element has and how its bounds lie
 module _ (k : Known) where
@@ -69,12 +69,23 @@ module _ (k : Known) where
       ap (λ (b : List ℕ). given b (k .attributes)) q ∙ not-false (has k (r .name)) z)
       (λ t. required n rs (a .1) (rw t at g))
 
-  required-in : misfit k ≡ false → any (λ r. r .required && not (has k (r .name))) (rulesOf (k .name)) ≡ false
+  abbrev Fit : Type 0
+  Fit = (any (λ r. r .required && not (has k (r .name))) (rulesOf (k .name)) ≡ false)
+      × (has k "dlc" && not (has k "dlc_min") ≡ false) × (has k "dlc_min" && not (has k "dlc") ≡ false)
+
+  fit-parts : misfit k ≡ false → Fit
   unfolding misfit
-  required-in m =
-      third (any (λ a. not (any (λ r. same (a .name) (bytes (r .name))) (rulesOf (k .name)))) (k .attributes)) (repeated (k .attributes))
+  fit-parts m =
+      last-three (any (λ a. not (any (λ r. same (a .name) (bytes (r .name))) (rulesOf (k .name)))) (k .attributes)) (repeated (k .attributes))
       (any (λ r. r .required && not (has k (r .name))) (rulesOf (k .name))) (has k "dlc" && not (has k "dlc_min"))
       (has k "dlc_min" && not (has k "dlc")) m
+
+  required-in : misfit k ≡ false → any (λ r. r .required && not (has k (r .name))) (rulesOf (k .name)) ≡ false
+  required-in m = fit-parts m .0
+
+  -- both bounds of its length, or none
+  pub paired : misfit k ≡ false → has k "dlc" ≡ has k "dlc_min"
+  paired m = together (has k "dlc") (has k "dlc_min") (fit-parts m .1) (fit-parts m .2)
 
   abbrev wide : Bool
   wide = ltb 2047 (valueOf k "msgid") || ltb 2047 (valueOf k "msgid_min")
@@ -133,12 +144,14 @@ module _ (n : ℕ) (k : Known) (fit : misfit k ≡ false) (bounds : crossed k �
   abbrev fires : Type 0
   fires = triggerIn n (triggerOf k) ≡ true
 
-  timely : (t : List ℕ) → valueOf k "timeout" ≡ goodOf (worthOf Timeout t)
-      → timeoutIn (cond (eqb (valueOf k "timeout") 4294967295) Forever (Ms (valueOf k "timeout"))) ≡ true
-  timely t e = rw e (timeout-top t)
+  abbrev lasts : List ℕ
+  lasts = givenValue (bytes "timeout") (k .attributes)
 
   abbrev in-time : Type 0
-  in-time = timeoutIn (cond (eqb (valueOf k "timeout") 4294967295) Forever (Ms (valueOf k "timeout"))) ≡ true
+  in-time = timeoutIn (cond (same lasts (bytes "-1")) Forever (Ms (valueOf k "timeout"))) ≡ true
+
+  timely : valueOf k "timeout" ≡ goodOf (worthOf Timeout lasts) → in-time
+  timely e = rw e (timeout-top lasts)
 
   id-given : is "TRIGGER_MSG_ID" k ≡ true → in-time → ltb (valueOf k "channel") n ≡ true
       → leb (valueOf k "msgid_min") (valueOf k "msgid") ≡ true → leb (valueOf k "msgid") (idTop (eqb (valueOf k "can_ext") 1)) ≡ true
@@ -149,7 +162,7 @@ module _ (n : ℕ) (k : Known) (fit : misfit k ≡ false) (bounds : crossed k �
   id-in : k .name ≡ bytes "TRIGGER_MSG_ID" → fires
   unfolding channelNamed any bytes same worthBy rulesIn elements parentIn parents
   id-in m =
-      id-given (rw m refl) (timely (givenValue (bytes "timeout") (k .attributes)) (rw m refl))
+      id-given (rw m refl) (timely (rw m refl))
       (below n (valueOf k "channel") (channelNamed k) (rw m refl) low)
       (le-leb (valueOf k "msgid_min") (valueOf k "msgid") (ids-ordered k bounds))
       (id-top k bounds (required k "can_ext" (rulesOf (k .name)) (required-in k fit) (rw m refl))
@@ -164,7 +177,7 @@ module _ (n : ℕ) (k : Known) (fit : misfit k ≡ false) (bounds : crossed k �
   length-in : k .name ≡ bytes "TRIGGER_MSG_DLC" → fires
   unfolding channelNamed any bytes same worthBy rulesIn elements parentIn parents
   length-in m =
-      length-given (rw m refl) (rw m refl) (timely (givenValue (bytes "timeout") (k .attributes)) (rw m refl))
+      length-given (rw m refl) (rw m refl) (timely (rw m refl))
       (below n (valueOf k "channel") (channelNamed k) (rw m refl) low)
       (le-leb (valueOf k "dlc_min") (valueOf k "dlc") (lengths-ordered k bounds))
       (le-leb (valueOf k "dlc") 8 (rw m (number-top 0 8 8 (givenValue (bytes "dlc") (k .attributes)))))
@@ -177,7 +190,7 @@ module _ (n : ℕ) (k : Known) (fit : misfit k ≡ false) (bounds : crossed k �
   error-in : k .name ≡ bytes "TRIGGER_MSG_ERROR_FRAME" → fires
   unfolding channelNamed any bytes same worthBy rulesIn elements parentIn parents
   error-in m =
-      error-given (rw m refl) (rw m refl) (rw m refl) (timely (givenValue (bytes "timeout") (k .attributes)) (rw m refl))
+      error-given (rw m refl) (rw m refl) (rw m refl) (timely (rw m refl))
       (below n (valueOf k "channel") (channelNamed k) (rw m refl) low)
 
   startup-given : is "TRIGGER_MSG_ID" k ≡ false → is "TRIGGER_MSG_DLC" k ≡ false → is "TRIGGER_MSG_ERROR_FRAME" k ≡ false → in-time → fires
@@ -186,7 +199,7 @@ module _ (n : ℕ) (k : Known) (fit : misfit k ≡ false) (bounds : crossed k �
 
   startup-in : k .name ≡ bytes "TRIGGER_STARTUP" → fires
   unfolding bytes same worthBy rulesIn elements
-  startup-in m = startup-given (rw m refl) (rw m refl) (rw m refl) (timely (givenValue (bytes "timeout") (k .attributes)) (rw m refl))
+  startup-in m = startup-given (rw m refl) (rw m refl) (rw m refl) (timely (rw m refl))
 
   pub trigger-in : isIn "TRIGGERS" k ≡ true → fires
   trigger-in h = trigger-case k h id-in length-in error-in startup-in
@@ -212,8 +225,8 @@ module _ (k : Known) (fit : misfit k ≡ false) (bounds : crossed k ≡ false) (
   filter-given o i l t =
       let g = le-leb (valueOf k "dlc_min") (valueOf k "dlc") l in
       let h = le-leb (valueOf k "dlc") 8 t in
-      let u = le-leb (valueOf k "dlc_min") 8 (omega (arith, l, t)) in
-      by-cases (has k "dlc") (λ b. rw (b, some-channel, low, o, i, g, h) refl) (λ b. rw (b, some-channel, low, o, i, u) refl)
+      by-cases (has k "dlc") (λ b. rw (b, sym (paired k fit) ∙ b, some-channel, low, o, i, g, h) refl)
+      (λ b. rw (b, sym (paired k fit) ∙ b, some-channel, low, o, i) refl)
 
   pass-in : k .name ≡ bytes "MESSAGE_PASS" → passes
   unfolding any bytes same worthBy rulesIn elements
@@ -235,61 +248,6 @@ module _ (k : Known) (fit : misfit k ≡ false) (bounds : crossed k ≡ false) (
 
   pub filter-in : isIn "FILTERS" k ≡ true → passes
   filter-in h = filter-case k h pass-in stop-in
-
--- ---- a sum of channels' powers
-pow-some : (m : ℕ) → 1 ≤ 2 ^ m
-pow-some zero = omega arith
-pow-some (suc m) = let h = pow-some m in let p = pow·suc 2 m in omega (arith, h, p)
-
-module _ (cs : List ℕ) where
-  sum-below : (m : ℕ) → sumFrom m cs < 2 ^ m
-  unfolding sumFrom
-  sum-below zero = omega arith
-  sum-below (suc m) =
-      let h = sum-below m in
-      let p = pow·suc 2 m in
-      by-cases (any (eqb m) cs) (λ t. rw t (omega (arith, h, p))) (λ t. rw t (omega (arith, h, p)))
-
-  -- there are none above
-  sum-cut : (n j : ℕ) → ((c : ℕ) → n ≤ c → any (eqb c) cs ≡ false) → sumFrom (j + n) cs ≡ sumFrom n cs
-  unfolding sumFrom
-  sum-cut n zero h = let e : 0 + n ≡ n = omega arith in ap (λ (m : ℕ). sumFrom m cs) e
-  sum-cut n (suc j) h =
-      let e : suc j + n ≡ suc (j + n) = omega arith in
-      ap (λ (m : ℕ). sumFrom m cs) e ∙ rw (h (j + n) (omega arith)) (let r = sum-cut n j h in omega (arith, r))
-
-  sum-some : (m c : ℕ) → c < m → any (eqb c) cs ≡ true → 1 ≤ sumFrom m cs
-  unfolding sumFrom
-  sum-some zero c l h = absurd (omega (arith, l))
-  sum-some (suc m) c l h =
-      by-cases (eqb c m)
-      (λ t. let q = eqb-true c m t in
-      let g : any (eqb m) cs ≡ true = rw q at h in
-      let p = pow-some m in
-      rw g (omega (arith, p)))
-      (λ t. let r = sum-some m c (let z = eqb-false c m t in omega (arith, l, z)) h in omega (arith, r))
-
-not-beyond : (n c : ℕ) (cs : List ℕ) → any (leb n) cs ≡ false → n ≤ c → any (eqb c) cs ≡ false
-unfolding any
-not-beyond n c [] h l = refl
-not-beyond n c (d ∷ cs) h l =
-    let a = neither (leb n d) (any (leb n) cs) h in
-    let g = leb-false n d (a .0) in
-    rw (ne-eqb c d (λ e. absurd (omega (arith, e, g, l)))) (not-beyond n c cs (a .1) l)
-
--- channels below n, at least one: a mask from 1 to 2^n - 1
-pub mask-some : (n c : ℕ) (cs : List ℕ) → n ≤ 5 → any (leb n) (c ∷ cs) ≡ false → leb 1 (sumFrom 5 (c ∷ cs)) ≡ true
-unfolding any
-mask-some n c cs l h =
-    let a = neither (leb n c) (any (leb n) cs) h in
-    let g = leb-false n c (a .0) in
-    le-leb 1 (sumFrom 5 (c ∷ cs)) (sum-some (c ∷ cs) 5 c (omega (arith, g, l)) (rw (eq-eqb c c refl) refl))
-
-pub mask-below : (n : ℕ) (cs : List ℕ) → n ≤ 5 → any (leb n) cs ≡ false → ltb (sumFrom 5 cs) (2 ^ n) ≡ true
-mask-below n cs l h =
-    let e : (5 - n) + n ≡ 5 = omega arith in
-    let s : sumFrom 5 cs ≡ sumFrom n cs = ap (λ (m : ℕ). sumFrom m cs) (sym e) ∙ sum-cut cs n (5 - n) (λ c g. not-beyond n c cs h g) in
-    rw s (lt-ltb (sumFrom n cs) (2 ^ n) (sum-below cs n))
 
 -- ---- statements
 pub post-in : (k : Known) → is "STATEMENT" k ≡ true → leb (valueOf k "posttrigger") 1000000000 ≡ true

@@ -1,49 +1,44 @@
 -- The loader takes every plan of a document without faults, and reads it back as it was.
-use Prim.Native.Nat.{ℕ, _+_, _^_, _≤_}
+use Prim.Native.Nat.{ℕ, suc, _+_, _^_, _≤_}
 use native.Mathlib.Omega.{arith}
 use mathlib.Core.Path.{_≡_, refl, sym, ap, _∙_, subst}
-use mathlib.Core.List.{List, [], _∷_, _++_, map, append-nil}
+use mathlib.Core.List.{List, [], _∷_, _++_, map}
+use mathlib.Core.Option.{Option, none, some}
 use mathlib.Core.Bool.{Bool, true, false, _||_}
-use lib.Dec.{leb, ltb, eqb}
-use lib.ListN.{length, take, drop, length-map, length-take}
+use lib.Dec.{leb, eqb}
+use lib.ListN.{length, take, drop, length-map}
 use lib.Seq.{take-append-seam}
-use borrow.Author.Tests.{le-leb, eqb-false}
+use borrow.Author.Tests.{le-leb, leb-false, lt-leb, eqb-false}
 use Rattle.text.specs.Texts.{bytes, same}
 use Rattle.lists.proofs.Cases.{le-or-lt}
 use Rattle.shape.specs.Shape.{Node, WellShaped}
-use Rattle.records.specs.declared.Action.{Action}
 use Rattle.records.specs.declared.Filter.{Filter}
-use Rattle.records.specs.Records.{triggerIn, filterIn}
-use Rattle.code.specs.Code.{soundCode}
+use Rattle.records.specs.Records.{PlanStatement, triggerIn, filterIn, sumFrom}
 use Rattle.loader.specs.declared.Loaded.{Loaded}
 use Rattle.loader.specs.declared.Loaded.the-variants.{Taken}
 use Rattle.loader.specs.Plan.{Plan, statementIn, inRange, PlanOf, Loads, layoutOf}
 use Rattle.loader.proofs.Exact.{loads-once, one-plan}
-use Rattle.grammar.specs.declared.Verdict.{Verdict}
-use Rattle.grammar.specs.declared.Verdict.the-variants.{Good, Broken, Unknown}
-use Rattle.grammar.specs.declared.Compiled.{Compiled}
-use Rattle.grammar.specs.Outcome.{Gives, verdictRefusal}
-use Rattle.grammar.specs.GrammarCode.{compiled}
-use Rattle.grammar.proofs.Ruled.{gives, gives-once, fits}
-use Rattle.read_back.proofs.Loads.{Compiles, good}
+use Rattle.grammar.specs.Outcome.{Becomes}
+use Rattle.grammar.proofs.Loads.{GoodCode, good}
 use Rattle.schema.specs.declared.Times.the-variants.{OneTo}
 use Rattle.schema.specs.Schema.{oneOf, under, parentIn, parents}
-use Rattle.file_rules.specs.Element.{Known, Fault, _at_if_, ownFaults, goodOf, channelOf, valueOf, has, textOf}
+use Rattle.file_rules.specs.Element.{Known, Fault, _at_if_, ownFaults, goodOf, channelOf, valueOf, has}
 use Rattle.element.specs.ElementCode.{firstNumber}
 use Rattle.element.proofs.Laws.{Clean, clean-law}
-use Rattle.element.proofs.Gathers.{neither}
-use Rattle.file_rules.specs.Reading.{is, busOf, triggerOf, filterOf, actionOf}
+use Rattle.lists.proofs.Parts.{neither}
+use Rattle.file_rules.specs.Reading.{is, triggerOf, filterOf, actionOf}
 use Rattle.file_rules.specs.Document.{knownElements, held, lacks, unmet, elementFaults}
 use Rattle.document.proofs.Few.{append-none}
 use Rattle.document.proofs.Stood.{All}
-use Rattle.file_rules.specs.Tables.{kept, isIn, within, nameOf, channelsOf, sumFrom, channelNamed, channelsIn, expressionsOf, lineOf, usedNames, gap, tablesOf, tableFaults}
+use Rattle.file_rules.specs.Tables.{kept, isIn, within, nameOf, channelsOf, channelNamed, channelsIn, actionsOf, expressionsOf, expressionOf, namesOf, usedNames, gap, tableFaults}
 use Rattle.tables.proofs.Wanted.{Formed}
-use Rattle.tables.proofs.Nested.{map-twice, nested-in, nested-known, all-within, all-mapped, all-zipped, all-kept, spread, eachName, eachPair}
+use Rattle.tables.proofs.Nested.{nested-in, nested-known, all-within, all-mapped, all-zipped, all-kept, spread, eachName, eachPair}
 use Rattle.tables.proofs.Entries.{faultless-parts}
 use Rattle.tables.proofs.Counts.{few-triggers, few-filters, few-statements, few-parameters, some-parameters, all-formed, held-kept, any-none}
-use Rattle.converter.specs.Converter.{statementFor, planFor, wordsFor, faultOf, expressionFaults, faults, GivesAll, Converts}
+use Rattle.converter.specs.Converter.{planFor, faultOf, Composes, Judged, Meets, Converts}
 use Rattle.converter.specs.declared.Converted.the-variants.{Words}
-use Rattle.read_back.proofs.Ranges.{trigger-in, filter-case, filter-in, mask-some, mask-below, post-in}
+use Rattle.read_back.proofs.Ranges.{paired, trigger-in, filter-case, filter-in, post-in}
+use Rattle.records.proofs.Masks.{mask-some, mask-below}
 use Rattle.lists.specs.Lists.{any, all, gathered}
 
 -- ---- lists without faults
@@ -107,49 +102,68 @@ filter-times : (k : Known) → isIn "FILTERS" k ≡ true → under (k .name) .ti
 unfolding any parentIn parents bytes same
 filter-times k h = filter-case k h (λ m. rw m refl) (λ m. rw m refl)
 
+-- what is below n is below m, if n is
+low-in : (n m : ℕ) (cs : List ℕ) → n ≤ m → any (leb n) cs ≡ false → any (leb m) cs ≡ false
+unfolding any
+low-in n m [] l h = refl
+low-in n m (c ∷ cs) l h =
+    let a = neither (leb n c) (any (leb n) cs) h in
+    let g = leb-false n c (a .0) in
+    rw (lt-leb m c (omega (arith, g, l))) (low-in n m cs l (a .1))
+
 mask-low : (n : ℕ) (cs : List ℕ) → n ≤ 5 → 1 ≤ length cs → any (leb n) cs ≡ false → leb 1 (sumFrom 5 cs) ≡ true
 mask-low n [] l s h = absurd (omega (arith, s))
 mask-low n (c ∷ cs) l s h = mask-some n c cs l h
 
--- ---- a statement's code
-not-refused : (v : Verdict) (p : ℕ) → faultOf (verdictRefusal v) p ≡ [] → v ≡ Good
-not-refused Good p e = refl
-not-refused Broken p e = absurd (omega (arith, ap length e))
-not-refused Unknown p e = absurd (omega (arith, ap length e))
+-- ---- statements, each with the code that its expression becomes
+pub data Coded (names : List (List ℕ)) : List Known → List PlanStatement → Type 0 where
+  over : Coded names [] []
+  next :
+      (k : Known) (code : List ℕ) (ks : List Known) (ss : List PlanStatement)
+      → GoodCode names (expressionOf k) code
+      → Coded names ks ss
+      → Coded names (k ∷ ks) (record { post = valueOf k "posttrigger"; actions = actionsOf k; code = code } ∷ ss)
 
-module _ (names : List (List ℕ)) (few : length names ≤ 32) (t : List ℕ) (a : Compiled) (g : Gives names t a) (v : a .verdict ≡ Good) where
-  is-compiled : a ≡ compiled names t
-  is-compiled = gives-once g (gives names t)
+abbrev Whole : Known → Type 0
+Whole k = (is "STATEMENT" k ≡ true) × Formed k
 
-  abbrev codeOf : List ℕ
-  codeOf = take (a .count) (a .words)
+no-refusal : (r : Option ℕ) (es : List Known) (e : Known) → es ≡ e ∷ [] → gathered (λ y. faultOf r (y .place)) es ≡ [] → r ≡ none
+unfolding gathered
+no-refusal none es e o h = refl
+no-refusal (some n) es e o h = absurd (omega (arith, ap length (rw o at h)))
 
-  its-code : Compiles names t a
-  its-code = subst (Compiles names t) (sym is-compiled) (good few (sym (ap (λ (y : Compiled). y .verdict) is-compiled) ∙ v))
+module _ (names : List (List ℕ)) (few : length names ≤ 32) where
+  coded : (ks : List Known) (fs : List Fault) (ss : List PlanStatement) → All Whole ks → Composes names ks fs ss → fs ≡ [] → Coded names ks ss
+  coded [] fs ss h Composes.over e = Coded.over
+  coded (k ∷ ks) fs ss h (Composes.next k₁ r code ks₁ gs ts b m) e =
+      let a = append-none (gathered (λ y. faultOf r (y .place)) (expressionsOf k)) gs e in
+      let w = (h .0 .1) (h .0 .0) in
+      let z = no-refusal r (expressionsOf k) (w .1 .0) (w .1 .1) (a .0) in
+      Coded.next k code ks ts (good few (subst (λ (q : Option ℕ). Becomes names (expressionOf k) q code) z b)) (coded ks gs ts (h .1) m (a .1))
 
-  long : length codeOf ≡ a .count
-  long = let f = fits names t is-compiled in let h = length-take (a .count) (a .words) in omega (arith, f .0, f .1, h)
-
-  -- the statement of a line with that text
-  statement-given : (n post : ℕ) (actions : List Action) → length names ≡ n → leb post 1000000000 ≡ true → length actions ≤ 6
-      → statementIn n (record { post = post; actions = actions; code = codeOf }) ≡ true
+  statement-in : (k : Known) (code : List ℕ) → Whole k → GoodCode names (expressionOf k) code
+      → statementIn (length names) (record { post = valueOf k "posttrigger"; actions = actionsOf k; code = code }) ≡ true
   unfolding statementIn
-  statement-given n post actions e p q =
-      let c = its-code in
-      let f = fits names t is-compiled in
-      let o : leb 1 (length codeOf) ≡ true = le-leb 1 (length codeOf) (let w = c .some-words in omega (arith, w, long)) in
-      let u : leb (length codeOf) 64 ≡ true = le-leb (length codeOf) 64 (omega (arith, f .0, long)) in
-      let l : soundCode n codeOf ≡ true = subst (λ (m : ℕ). soundCode m codeOf ≡ true) e (c .loads) in
-      rw (p, le-leb (length actions) 6 q, o, u, l) refl
+  statement-in k code w c =
+      let m = length-map (kept (isIn "ACTIONS") (within k)) actionOf in
+      rw (
+        post-in k (w .0),
+        le-leb (length (actionsOf k)) 6 (omega (arith, m, (w .1) (w .0) .0)),
+        le-leb 1 (length code) (c .some-words),
+        le-leb (length code) 64 (c .few),
+        c .loads,
+      )
 
--- a statement's numbers
-actions-long : (k : Known) → length (lineOf k .actions) ≡ length (kept (isIn "ACTIONS") (within k))
-unfolding lineOf
-actions-long k = length-map (kept (isIn "ACTIONS") (within k)) actionOf
+  statements-in : (ks : List Known) (ss : List PlanStatement) → All Whole ks → Coded names ks ss
+      → (all (statementIn (length names)) ss ≡ true) × (length ss ≡ length ks)
+  unfolding all
+  statements-in [] ss h Coded.over = (refl, refl)
+  statements-in (k ∷ ks) ss h (Coded.next k₁ code ks₁ ts c m) =
+      let r = statements-in ks ts (h .1) m in
+      (rw (statement-in k code (h .0) c) (r .0), ap suc (r .1))
 
-post-good : (k : Known) → is "STATEMENT" k ≡ true → leb (lineOf k .post) 1000000000 ≡ true
-unfolding lineOf
-post-good k i = post-in k i
+abbrev pub Plain : Known → Type 0
+Plain k = (any (leb 5) (channelsOf k) ≡ false) × (has k "dlc" ≡ has k "dlc_min")
 
 -- ---- the plan of a document without faults
 module _ (x : Node) (e : elementFaults x ≡ []) (h : tableFaults (knownElements x) ≡ []) where
@@ -182,7 +196,7 @@ module _ (x : Node) (e : elementFaults x ≡ []) (h : tableFaults (knownElements
       ks
       (none-gathered (λ k. 10 at k .place if any (leb n) (channelNamed k)) ks (b .1))
 
-  cleans : All Clean ks
+  pub cleans : All Clean ks
   unfolding firstNumber
   cleans =
       all-mapped (λ k. ownFaults k ≡ []) Clean (λ k z. clean-law k (ap firstNumber z)) ks
@@ -225,158 +239,90 @@ module _ (x : Node) (e : elementFaults x ≡ []) (h : tableFaults (knownElements
       (λ k z. filter-good k (z .0) (z .1 .0) (z .1 .1 .0) (z .1 .1 .1)) (kept (isIn "FILTERS") ks)
       (all-kept Ready (isIn "FILTERS") ks readies))
 
-  module _ (c : List ℕ → Compiled) (g : GivesAll x c) (v : expressionFaults c ks ≡ []) where
-    abbrev names : List (List ℕ)
-    names = map nameOf (kept (isIn "TRIGGERS") ks)
+  -- a filter's channels are below 5, and it has both bounds of its length or none
+  pub plain-filters : All Plain (kept (isIn "FILTERS") ks)
+  plain-filters =
+      all-mapped (λ k. (isIn "FILTERS" k ≡ true) × Ready k) Plain
+      (λ k z. (low-in n 5 (channelsOf k) n-top (channels-low n (within k) (only-channels k (z .0)) (z .1 .1 .1)), paired k (z .1 .0 .fits)))
+      (kept (isIn "FILTERS") ks)
+      (all-kept Ready (isIn "FILTERS") ks readies)
 
-    -- all texts compile
-    abbrev Sound : Known → Type 0
-    Sound k = gathered (λ y. faultOf (verdictRefusal (c (textOf y) .verdict)) (y .place)) (expressionsOf k) ≡ []
+  abbrev names : List (List ℕ)
+  names = namesOf ks
 
-    sounds : All Sound (kept (is "STATEMENT") ks)
-    unfolding expressionFaults
-    sounds =
-        none-gathered (λ k. gathered (λ y. faultOf (verdictRefusal (c (textOf y) .verdict)) (y .place)) (expressionsOf k))
-        (kept (is "STATEMENT") ks) v
+  few-names : length names ≤ 32
+  few-names = let a = few-triggers x e in let b = length-map (kept (isIn "TRIGGERS") ks) nameOf in omega (arith, a, b)
 
-    few-names : length names ≤ 32
-    few-names = let a = few-triggers x e in let b = length-map (kept (isIn "TRIGGERS") ks) nameOf in omega (arith, a, b)
-
-    given-names : (t : List ℕ) → Gives names t (c t)
-    unfolding tablesOf
-    given-names t = g t
-
-    -- its text is that of its one expression, and it compiles
-    line-good : (k : Known) → is "STATEMENT" k ≡ true → Formed k → Sound k → c (lineOf k .text) .verdict ≡ Good
-    unfolding lineOf gathered
-    line-good k i f s =
-        let w = f i in
-        let y = w .1 .0 in
-        let z : faultOf (verdictRefusal (c (textOf y) .verdict)) (y .place)
-        ≡ [] = (append-none (faultOf (verdictRefusal (c (textOf y) .verdict)) (y .place)) [] (rw (w .1 .1) at s)) .0 in
-        let u : gathered textOf (expressionsOf k) ≡ textOf y = rw (w .1 .1) (append-nil (textOf y)) in
-        rw u (not-refused (c (textOf y) .verdict) (y .place) z)
-
-    statement-good : (k : Known) → is "STATEMENT" k ≡ true → Formed k → Sound k
-        → statementIn (length names) (statementFor c (lineOf k)) ≡ true
-    unfolding statementFor
-    statement-good k i f s =
-        let m = actions-long k in
-        statement-given names few-names (lineOf k .text) (c (lineOf k .text)) (given-names (lineOf k .text)) (line-good k i f s)
-        (length names) (lineOf k .post) (lineOf k .actions) refl (post-good k i) (omega (arith, m, f i .0))
-
-    abbrev Whole : Known → Type 0
-    Whole k = ((is "STATEMENT" k ≡ true) × Formed k) × Sound k
-
+  module _ (ss : List PlanStatement) (c : Composes names (kept (is "STATEMENT") ks) [] ss) where
     wholes : All Whole (kept (is "STATEMENT") ks)
-    wholes =
-        all-zipped (λ k. (is "STATEMENT" k ≡ true) × Formed k) Sound (kept (is "STATEMENT") ks)
-        (all-kept Formed (is "STATEMENT") ks (all-formed x e)) sounds
+    wholes = all-kept Formed (is "STATEMENT") ks (all-formed x e)
 
-    lines-compile : All (λ k. Compiles names (lineOf k .text) (c (lineOf k .text))) (kept (is "STATEMENT") ks)
-    lines-compile =
-        all-mapped Whole (λ k. Compiles names (lineOf k .text) (c (lineOf k .text)))
-        (λ k z. its-code names few-names (lineOf k .text) (c (lineOf k .text)) (given-names (lineOf k .text))
-        (line-good k (z .0 .0) (z .0 .1) (z .1))) (kept (is "STATEMENT") ks) wholes
+    pub codes : Coded names (kept (is "STATEMENT") ks) ss
+    codes = coded names few-names (kept (is "STATEMENT") ks) [] ss wholes c refl
 
-    abbrev plan : Plan
-    plan = planFor c (tablesOf ks)
+    many-triggers : length (map triggerOf (kept (isIn "TRIGGERS") ks)) ≡ length names
+    many-triggers = length-map (kept (isIn "TRIGGERS") ks) triggerOf ∙ sym (length-map (kept (isIn "TRIGGERS") ks) nameOf)
 
-    triggers-are : plan .triggers ≡ map triggerOf (kept (isIn "TRIGGERS") ks)
-    unfolding planFor tablesOf
-    triggers-are = refl
-
-    filters-are : plan .filters ≡ map filterAs (kept (isIn "FILTERS") ks)
-    unfolding planFor tablesOf
-    filters-are = map-twice (λ k. (filterAs k, channelsOf k, has k "dlc")) (λ y. y .0) (kept (isIn "FILTERS") ks)
-
-    statements-are : plan .statements ≡ map (λ k. statementFor c (lineOf k)) (kept (is "STATEMENT") ks)
-    unfolding planFor tablesOf
-    statements-are = map-twice lineOf (statementFor c) (kept (is "STATEMENT") ks)
-
-    channels-are : plan .channels ≡ n
-    unfolding planFor tablesOf
-    channels-are = length-map (kept (is "PARAMETERS") ks) busOf ∙ sym parameters
-
-    statements-in : all (statementIn (length names)) (map (λ k. statementFor c (lineOf k)) (kept (is "STATEMENT") ks)) ≡ true
-    statements-in =
-        all-true (statementIn (length names)) (λ k. statementFor c (lineOf k)) (kept (is "STATEMENT") ks)
-        (all-mapped Whole (λ k. statementIn (length names) (statementFor c (lineOf k)) ≡ true)
-        (λ k z. statement-good k (z .0 .0) (z .0 .1) (z .1)) (kept (is "STATEMENT") ks) wholes)
-
-    many-triggers : length (plan .triggers) ≡ length names
-    many-triggers = ap length triggers-are
-        ∙ (length-map (kept (isIn "TRIGGERS") ks) triggerOf ∙ sym (length-map (kept (isIn "TRIGGERS") ks) nameOf))
-
-    triggers-in-plan : all (triggerIn n) (plan .triggers) ≡ true
-    triggers-in-plan = ap (all (triggerIn n)) triggers-are ∙ triggers-in
-
-    names-are : tablesOf ks .names ≡ names
-    unfolding tablesOf
-    names-are = refl
-
-    compile-all : All (λ k. Compiles (tablesOf ks .names) (lineOf k .text) (c (lineOf k .text))) (kept (is "STATEMENT") ks)
-    compile-all = rw names-are lines-compile
-
-    pub in-range : inRange plan ≡ true
-    unfolding inRange
+    pub in-range : inRange (planFor ss ks) ≡ true
+    unfolding inRange planFor
     in-range =
         let a = some-parameters x e in
         let f = length-map (kept (isIn "FILTERS") ks) filterAs in
-        let s = length-map (kept (is "STATEMENT") ks) (λ k. statementFor c (lineOf k)) in
+        let s = statements-in names few-names (kept (is "STATEMENT") ks) ss wholes codes in
         let b = few-filters x e in
         let d = few-statements x e in
-        rw (channels-are, many-triggers, triggers-in-plan, filters-are, statements-are)
+        rw (← parameters, many-triggers)
         (rw (
           le-leb 1 n (omega (arith, a, parameters)),
           le-leb n 5 n-top,
           le-leb (length names) 32 few-names,
-          le-leb
-              (length (map filterAs (kept (isIn "FILTERS") ks))) 32 (omega (arith, f, b)),
-          le-leb
-              (length (map (λ k. statementFor c (lineOf k)) (kept (is "STATEMENT") ks))) 16 (omega (arith, s, d)),
+          le-leb (length (map filterAs (kept (isIn "FILTERS") ks))) 32 (omega (arith, f, b)),
+          le-leb (length ss) 16 (omega (arith, s .1, d)),
+          triggers-in,
           filters-in,
-          statements-in,
+          s .0,
         )
         refl)
 
--- ---- what `convert` has written: the loader takes it, and reads it back as the plan of the file's own tables
+-- ---- what `convert` has written: the loader takes it, and reads it back as the plan of the file
 pub record Taken-back (s ws : List ℕ) : Type 0 where
   pub document : Node
+  pub statements : List PlanStatement
   pub shaped : WellShaped s document
-  pub rules : List ℕ → Compiled
-  pub given : GivesAll document rules
-  pub compile : All (λ k. Compiles (tablesOf (knownElements document) .names) (lineOf k .text) (rules (lineOf k .text)))
-      (kept (is "STATEMENT") (knownElements document))
-  pub words : ws ≡ wordsFor rules document
+  pub coded : Coded (namesOf (knownElements document)) (kept (is "STATEMENT") (knownElements document)) statements
+  pub filters : All Plain (kept (isIn "FILTERS") (knownElements document))
   pub is-plan : PlanOf ws
-  pub takes : (r : Loaded) → Loads ws r → r ≡ Taken (layoutOf (planFor rules (tablesOf (knownElements document))))
-  pub reads-back : (p : PlanOf ws) → p .plan ≡ planFor rules (tablesOf (knownElements document))
+  pub takes : (r : Loaded) → Loads ws r → r ≡ Taken (layoutOf (planFor statements (knownElements document)))
+  pub reads-back : (p : PlanOf ws) → p .plan ≡ planFor statements (knownElements document)
 
-pub no-faults : (c : List ℕ → Compiled) (room : ℕ) (x : Node) → faults c room x ≡ []
-    → (elementFaults x ≡ []) × (tableFaults (knownElements x) ≡ []) × (expressionFaults c (knownElements x) ≡ [])
-unfolding faults
-no-faults c room x e =
-    let last = 13 at length (wordsFor c x) if ltb room (length (wordsFor c x)) in
-    let a = append-none (elementFaults x) (tableFaults (knownElements x) ++ (expressionFaults c (knownElements x) ++ last)) e in
-    let b = append-none (tableFaults (knownElements x)) (expressionFaults c (knownElements x) ++ last) (a .1) in
-    (a .0, b .0, (append-none (expressionFaults c (knownElements x)) last (b .1)) .0)
+-- the parts of a judgement without faults
+pub no-faults : (x : Node) (ss : List PlanStatement) → Judged x [] ss
+    → (elementFaults x ≡ []) × (tableFaults (knownElements x) ≡ [])
+    × Composes (namesOf (knownElements x)) (kept (is "STATEMENT") (knownElements x)) [] ss
+no-faults x ss j =
+    let ks = knownElements x in
+    let a = append-none (elementFaults x) (tableFaults ks ++ j .late) (sym (j .in-order)) in
+    let b = append-none (tableFaults ks) (j .late) (a .1) in
+    (a .0, b .0, subst (λ (l : List Fault). Composes (namesOf ks) (kept (is "STATEMENT") ks) l ss) (b .1) (j .composed))
 
-pub loader-takes : (s d : List ℕ) (count : ℕ) (out : List ℕ) → Converts s d (Words count) out → Taken-back s (take count out)
-loader-takes s d count out (Converts.converted x short w c g e) =
-    let f = no-faults c (length d) x e in
-    let t : take (length (wordsFor c x)) (wordsFor c x ++ drop (length (wordsFor c x)) d)
-    ≡ wordsFor c x = take-append-seam (wordsFor c x) (drop (length (wordsFor c x)) d) in
-    let spelt : PlanOf (take (length (wordsFor c x)) (wordsFor c x ++ drop (length (wordsFor c x)) d)) =
-    record { plan = planFor c (tablesOf (knownElements x)); in-range = in-range x (f .0) (f .1) c g (f .2); words = sym t } in
+pub meets-plan : (s ws : List ℕ) → Meets s ws → Taken-back s ws
+meets-plan s ws m =
+    let x = m .document in
+    let ss = m .statements in
+    let f = no-faults x ss (m .faultless) in
+    let spelt : PlanOf ws =
+    record { plan = planFor ss (knownElements x); in-range = in-range x (f .0) (f .1) ss (f .2); words = sym (m .words) } in
     record {
       document = x;
-      shaped = w;
-      rules = c;
-      given = g;
-      compile = compile-all x (f .0) (f .1) c g (f .2);
-      words = t;
+      statements = ss;
+      shaped = m .spells;
+      coded = codes x (f .0) (f .1) ss (f .2);
+      filters = plain-filters x (f .0) (f .1);
       is-plan = spelt;
       takes = λ r l. loads-once l (Loads.takes spelt);
       reads-back = λ p. one-plan p spelt;
     }
+
+pub loader-takes : (s d : List ℕ) (count : ℕ) (out : List ℕ) → Converts s d (Words count) out → Taken-back s (take count out)
+loader-takes s d count out (Converts.converts ws m l) =
+    subst (Taken-back s) (sym (take-append-seam ws (drop (length ws) d))) (meets-plan s ws m)

@@ -1,9 +1,10 @@
 -- "The plan" of paper 01, record by record: what each says, its words and its ranges.
-use Prim.Native.Nat.{ℕ}
+use Prim.Native.Nat.{ℕ, zero, suc, _+_, _^_}
 use mathlib.Core.List.{List, [], _∷_, _++_, map}
-use mathlib.Core.Bool.{Bool, true, false, _&&_}
+use mathlib.Core.Bool.{Bool, true, false, _&&_, cond}
 use lib.ListN.{length}
-use lib.Dec.{leb, ltb}
+use lib.Dec.{leb, ltb, eqb}
+use Rattle.lists.specs.Lists.{any}
 use Rattle.records.specs.declared.Cause.{Cause}
 use Rattle.records.specs.declared.Cause.the-variants.{Id, Length, Error, Startup}
 use Rattle.records.specs.declared.Timeout.{Timeout}
@@ -51,6 +52,11 @@ triggerWords t = causeWords (timeoutWord (t .timeout)) (t .cause)
 abbrev pub effectWord : Effect → ℕ
 effectWord Pass = 1
 effectWord Stop = 2
+
+-- "sum of 2^channel", "a repeat adds nothing": of the channels below n that are among cs
+unfoldable pub sumFrom : ℕ → List ℕ → ℕ
+sumFrom zero cs = 0
+sumFrom (suc c) cs = cond (any (eqb c) cs) (2 ^ c) 0 + sumFrom c cs
 
 -- each filter: kind (1 pass, 2 stop), sum of 2^channel, ext, id lower, id upper, dlc lower, dlc upper
 abbrev pub filterWords : Filter → List ℕ

@@ -8,7 +8,8 @@ use lib.ListN.{length, getD, take, drop, set}
 use Rattle.event_rules.specs.declared.Outcome.{Outcome}
 use Rattle.replay.specs.Wire.{fromBytes, bytesOf, bytesAt, answerBytes}
 use Rattle.lists.proofs.Parts.{fuel, spent}
-use Rattle.lists.proofs.Fills.{Filled, filled-none, filled-all, filled-take, filled-one, filled-more}
+use Rattle.lists.specs.FillsCode.{Filled}
+use Rattle.lists.proofs.Fills.{filled-none, filled-all, filled-take, filled-one, filled-more}
 
 -- ---- numbers from bytes
 pub four : (s : List ℕ) (at : ℕ)

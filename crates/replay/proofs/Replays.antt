@@ -9,7 +9,7 @@ use lib.ListN.{length, getD, take, drop, length-drop, drop-of-length-le}
 use lib.Seq.{drop-drop}
 use lib.Dec.{leb}
 use borrow.Author.Tests.{le-leb, leb-true, leb-false, ne-eqb}
-use Rattle.loader.specs.Plan.{Plan, Loads}
+use Rattle.loader.specs.Plan.{Plan, PlanOf, Loads}
 use Rattle.loader.specs.declared.Layout.{Layout}
 use Rattle.loader.specs.declared.Loaded.{Loaded}
 use Rattle.loader.specs.declared.Loaded.the-variants.{Taken, Refused}
@@ -18,11 +18,12 @@ use Rattle.event_rules.specs.declared.Frame.{Frame}
 use Rattle.event_rules.specs.declared.Engine.{Engine}
 use Rattle.event_rules.specs.declared.Counts.{Counts}
 use Rattle.event_rules.specs.declared.Outcome.{Outcome}
-use Rattle.event_rules.specs.Rules.{Event, frame, tick}
+use Rattle.event_rules.specs.Rules.{Config, Event, frame, tick}
 use Rattle.event_rules.specs.Calls.{fresh, configOf, refused, step}
 use Rattle.replay.specs.Wire.{frameAt, eventAt, answerBytes, withAnswer}
 use Rattle.replay.proofs.Bytes.{length-answer}
-use Rattle.lists.proofs.Fills.{Filled, filled-none, filled-all, filled-take, filled-more}
+use Rattle.lists.specs.FillsCode.{Filled}
+use Rattle.lists.proofs.Fills.{filled-none, filled-all, filled-take, filled-more}
 use Rattle.engine.specs.EventCode.{planBy}
 use Rattle.replay.specs.ReplayCode.{stepLoaded}
 use Rattle.replay.specs.Replay.{replayed, eventsAnswered, Replays, by-plan, no-plan}
@@ -154,3 +155,12 @@ replays-once {ws} {events} {k} {out} (by-plan p) (by-plan q) =
 replays-once (by-plan p) (no-plan n) = absurd (n p)
 replays-once (no-plan n) (by-plan q) = absurd (n q)
 replays-once (no-plan n) (no-plan m) = refl
+
+-- and is that of a configuration which every plan of the words has
+pub replay-is : (ws events : List ℕ) (k : Counts) (out after : List ℕ) (c : Config) → ((p : PlanOf ws) → configOf (p .plan) ≡ c)
+    → PlanOf ws
+    → Replays ws events k out after
+    → after ≡ replayed (step c) (eventsAnswered events out) events fresh k ++ drop (32 * eventsAnswered events out) out
+replay-is ws events k out after c same p (by-plan q) =
+    ap (λ (x : Config). replayed (step x) (eventsAnswered events out) events fresh k ++ drop (32 * eventsAnswered events out) out) (same q)
+replay-is ws events k out after c same p (no-plan n) = absurd (n p)

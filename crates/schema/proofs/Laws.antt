@@ -10,15 +10,16 @@ use lib.Dec.{leb, ltb}
 use lib.ListN.{length, getD, drop}
 use Rattle.text.specs.Texts.{bytes, same}
 use Rattle.lists.proofs.Cases.{by-cases}
+use Rattle.lists.proofs.Parts.{and-left, and-right}
 use Rattle.text.proofs.Equal.{same-equal}
 use Rattle.schema.specs.declared.Kind.{Kind}
 use Rattle.schema.specs.declared.Kind.the-variants.{NotCarried, Unknown}
 use Rattle.schema.specs.declared.Times.{Times}
 use Rattle.schema.specs.declared.Times.the-variants.{Once, OneTo, UpTo}
-use Rattle.schema.specs.Schema.{Rule, oneOf, parents, parentIn, under, elements, rulesIn, rulesOf}
+use Rattle.schema.specs.Schema.{Rule, ElementRules, oneOf, parents, parentIn, under, elements, rulesIn, rulesOf}
 use Rattle.schema.specs.SchemaCode.{kindName, kinds, kindAmong, barredAmong, kindUnder, isCarried, positionOf, orderOf, askedFrom, askedOf, requiredIn, firstRequired, apart}
 use Rattle.schema.proofs.Every.{everywhere}
-use Rattle.lists.specs.Lists.{any}
+use Rattle.lists.specs.Lists.{any, all}
 
 -- a name is that of one kind
 own-names : (k : Kind) → cond (isCarried k) (kindAmong kinds (kindName k)) k ≡ k
@@ -143,6 +144,14 @@ pub required-first : (k : Kind) → firstRequired (rulesOf (kindName k)) ≡ tru
 unfolding rulesIn elements firstRequired requiredIn kindName bytes same
 required-first = everywhere (λ k. firstRequired (rulesOf (kindName k))) (λ k. true) refl
 
-pub rules-distinct : (k : Kind) → apart (rulesOf (kindName k)) ≡ true
-unfolding rulesIn elements apart any kindName bytes same
-rules-distinct = everywhere (λ k. apart (rulesOf (kindName k))) (λ k. true) refl
+-- of any element, known or not
+apart-in : (es : List ElementRules) (n : List ℕ) → all (λ e. apart (e .rules)) es ≡ true → apart (rulesIn es n) ≡ true
+unfolding rulesIn apart all
+apart-in [] n a = refl
+apart-in (e ∷ es) n a =
+    by-cases (same n (bytes (e .name))) (λ t. rw t (and-left (apart (e .rules)) (all (λ x. apart (x .rules)) es) a))
+    (λ t. rw t (apart-in es n (and-right (apart (e .rules)) (all (λ x. apart (x .rules)) es) a)))
+
+pub rules-distinct : (n : List ℕ) → apart (rulesOf n) ≡ true
+unfolding elements apart any all bytes same
+rules-distinct n = apart-in elements n refl

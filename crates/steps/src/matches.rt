@@ -2,6 +2,7 @@
 ghost use mathlib.Core.Path.{_≡_};
 ghost use mathlib.Core.Bool.{Bool·beq};
 ghost use Rattle.event_rules.specs.Rules.{matches, fires};
+ghost use Rattle.event_rules.specs.Calls.{filterRule};
 ghost use Rattle.event_rules.specs.EventCode.{eventOf};
 use event_rules::Frame;
 use records::Cause;
@@ -14,7 +15,7 @@ fn same_flag(a: bool, b: bool) -> bool
 }
 
 pub fn filter_matches(x: Filter, f: Frame) -> bool
-    ensures { λ r. ⌜ r ≡ matches f x ⌝ }
+    ensures { λ r. ⌜ r ≡ matches f (filterRule x) ⌝ }
 {
     let ext = same_flag(x.ext, f.ext);
     !f.error

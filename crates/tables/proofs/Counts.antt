@@ -19,7 +19,7 @@ use Rattle.schema.specs.Schema.{Parent, parents, parentIn, oneOf, under}
 use Rattle.schema.specs.SchemaCode.{kindName, kindAmong}
 use Rattle.schema.proofs.Every.{everywhere}
 use Rattle.file_rules.specs.Element.{Known, _at_if_, ownFaults}
-use Rattle.element.proofs.Gathers.{neither}
+use Rattle.lists.proofs.Parts.{neither}
 use Rattle.file_rules.specs.Reading.{is}
 use Rattle.file_rules.specs.Document.{alsoNamed, held, knownIn, knownAt, knownElements, placeOf, unmet, lacks, elementFaults}
 use Rattle.document.proofs.Few.{left, top, Clean, append-none, clean-parts, clean-first, most, sum, Settled, few-inside, few-known}

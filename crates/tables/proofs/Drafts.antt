@@ -20,7 +20,7 @@ use Rattle.schema.specs.SchemaCode as schema
 use Rattle.schema.proofs.Laws.{kind-back}
 use Rattle.file_rules.specs.Element.{Known, misfit, valueOf, textOf}
 use Rattle.element.specs.ElementCode.{firstNumber, shortText}
-use Rattle.element.proofs.Gathers.{neither}
+use Rattle.lists.proofs.Parts.{neither}
 use Rattle.element.proofs.Texts.{short-law}
 use Rattle.element.proofs.Laws.{clean-law}
 use Rattle.file_rules.specs.Reading.{is, actionOf}

@@ -12,9 +12,7 @@ use Rattle.text.specs.Texts.{bytes, same}
 use Rattle.lists.proofs.Cases.{by-cases}
 use Rattle.text.proofs.Equal.{same-equal}
 use Rattle.records.specs.declared.Filter.{Filter}
-use Rattle.values.specs.declared.Number.{Number}
-use Rattle.values.specs.declared.Number.the-variants.{Value, Nothing}
-use Rattle.values.specs.Values.{ranged, numberSpelt, worthOf}
+use Rattle.values.specs.Values.{numberSpelt, worthOf}
 use Rattle.shape.specs.Shape.{Node}
 use Rattle.schema.specs.declared.Kind.{Kind}
 use Rattle.schema.specs.declared.Kind.the-variants.{MessagePass, MessageStop}
@@ -23,21 +21,21 @@ use Rattle.schema.specs.SchemaCode as schema
 use Rattle.schema.proofs.Laws.{kind-back}
 use Rattle.file_rules.specs.Element.{Known, goodOf, channelOf, misfit}
 use Rattle.element.specs.ElementCode.{gatheredAt, firstNumber}
-use Rattle.element.proofs.Gathers.{neither}
 use Rattle.element.proofs.Laws.{clean-law, channel-law}
 use Rattle.file_rules.specs.Reading.{is, filterOf}
 use Rattle.element.specs.ReadingCode.{filterFrom}
-use Rattle.tables.proofs.Readings.{pass-law, stop-law}
+use Rattle.tables.proofs.Readings.{ranged-top, pass-law, stop-law}
 use Rattle.file_rules.specs.Document.{knownElements}
 use Rattle.document.specs.DocumentCode.{entryOf}
 use Rattle.document.proofs.Stood.{All}
 use Rattle.writer.specs.declared.Filters.{Filters}
 use Rattle.tables.specs.RowsCode.{folded, withChannel, masked, noFilter, noFilters, pushFilter, addChannel, tellFilter}
-use Rattle.file_rules.specs.Tables.{kept, isIn, within, channelsOf, sumFrom}
+use Rattle.records.specs.Records.{sumFrom}
+use Rattle.file_rules.specs.Tables.{kept, isIn, within, channelsOf}
 use Rattle.tables.proofs.Wanted.{Fit}
 use Rattle.tables.proofs.Nested.{nested-in, nested-known, eachName, eachPair, spread, map-kept, changed, changed-still, grouping, grouped, viewed, pushed-rows, changed-rows, no-rows}
 use Rattle.lists.specs.Lists.{any}
-use Rattle.lists.proofs.Parts.{and-left, and-right}
+use Rattle.lists.proofs.Parts.{and-left, and-right, neither}
 
 -- ---- a mask of five channels
 abbrev maskOf : Bool → Bool → Bool → Bool → Bool → ℕ
@@ -92,15 +90,9 @@ mask-more cs c h =
     rw (any-last (eqb 4) cs c, any-last (eqb 3) cs c, any-last (eqb 2) cs c, any-last (eqb 1) cs c, any-last (eqb 0) cs c)
     (with-one c h (any (eqb 4) cs) (any (eqb 3) cs) (any (eqb 2) cs) (any (eqb 1) cs) (any (eqb 0) cs))
 
-ranged-low : (n : Number) → goodOf (ranged 0 4 4 n) ≤ 4
-ranged-low Nothing = omega arith
-ranged-low (Value v) =
-    by-cases (leb v 4) (λ t. rw t (by-cases (leb 0 v) (λ u. rw u (leb-true v 4 t)) (λ u. rw u (omega arith))))
-    (λ t. rw t (by-cases (leb 0 v) (λ u. rw u (omega arith)) (λ u. rw u (omega arith))))
-
 channel-low : (k : Known) → goodOf (channelOf k) ≤ 4
 unfolding worthOf
-channel-low k = ranged-low (numberSpelt _)
+channel-low k = ranged-top 0 4 4 (numberSpelt _)
 
 -- ---- a filter and the elements in it
 abbrev block : List ℕ → Bool

@@ -4,8 +4,7 @@ use mathlib.Core.Path.{_≡_, ap, sym, _∙_}
 use mathlib.Core.List.{List, [], map}
 use lib.ListN.{length, take}
 use Rattle.shape.specs.Shape.{Node, WellShaped}
-use Rattle.file_rules.specs.Element.{has}
-use Rattle.file_rules.specs.Reading.{is, filterOf}
+use Rattle.file_rules.specs.Reading.{is, triggerOf, filterOf}
 use Rattle.file_rules.specs.Document.{knownElements, elementFaults}
 use Rattle.document.specs.DocumentCode.{indexOf}
 use Rattle.document.proofs.Stood.{All}
@@ -15,10 +14,10 @@ use Rattle.tables.specs.declared.rows.Head.{Head}
 use Rattle.tables.specs.declared.rows.Names.{Names}
 use Rattle.tables.specs.declared.rows.Told.{Told}
 use Rattle.tables.specs.RowsCode.{told}
-use Rattle.file_rules.specs.Tables.{kept, isIn, channelsOf, sumFrom, tablesOf}
+use Rattle.records.specs.Records.{sumFrom}
+use Rattle.file_rules.specs.Tables.{kept, isIn, channelsOf, namesOf, logsAll}
 use Rattle.tables.specs.TablesCode.{namesAt}
 use Rattle.tables.proofs.Wanted.{Fit, Drafted, Each, Reads}
-use Rattle.tables.proofs.Nested.{map-twice}
 use Rattle.tables.proofs.Entries.{all-fit, told-head, told-triggers, told-names, told-filters, told-drafts}
 use Rattle.tables.proofs.Counts.{few-triggers, few-filters, few-statements, few-parameters, all-formed}
 use Rattle.tables.proofs.Tells.{triggers-law, names-law, head-law}
@@ -33,26 +32,21 @@ module _ (f : List ℕ) (x : Node) (short : length f ≤ 32768) (w : WellShaped 
   fits : All (Fit f) (knownElements x)
   fits = all-fit f x w e
 
-  log-all-is : t .head .all ≡ tablesOf (knownElements x) .logAll
-  unfolding tablesOf
+  log-all-is : t .head .all ≡ logsAll (knownElements x)
+  unfolding logsAll
   log-all-is = ap (λ (h : Head). h .all) (told-head f (knownElements x)) ∙ head-law f (knownElements x) fits (few-parameters x e) .all
 
-  triggers-are : take (t .triggers .count) (t .triggers .rows) ≡ tablesOf (knownElements x) .triggers
-  unfolding tablesOf
+  triggers-are : take (t .triggers .count) (t .triggers .rows) ≡ map triggerOf (kept (isIn "TRIGGERS") (knownElements x))
   triggers-are = ap (λ (y : Triggers). take (y .count) (y .rows)) (told-triggers f (knownElements x))
       ∙ triggers-law f (knownElements x) fits (few-triggers x e)
 
-  names-are : namesAt f (t .names) ≡ tablesOf (knownElements x) .names
-  unfolding tablesOf
+  names-are : namesAt f (t .names) ≡ namesOf (knownElements x)
   names-are = ap (λ (y : Names). namesAt f y) (told-names f (knownElements x)) ∙ names-law f (knownElements x) fits (few-triggers x e)
 
-  filters-are : take (t .filters .count) (t .filters .rows) ≡ map (λ y. y .0) (tablesOf (knownElements x) .filters)
-  unfolding tablesOf
-  filters-are =
-      ap (λ (y : Filters). take (y .count) (y .rows)) (told-filters f (knownElements x))
-      ∙ (filters-law f x short fits (few-filters x e)
-      ∙ sym (map-twice (λ k. (filterOf (sumFrom 5 (channelsOf k)) k, channelsOf k, has k "dlc")) (λ y. y .0)
-      (kept (isIn "FILTERS") (knownElements x))))
+  filters-are : take (t .filters .count) (t .filters .rows)
+      ≡ map (λ k. filterOf (sumFrom 5 (channelsOf k)) k) (kept (isIn "FILTERS") (knownElements x))
+  filters-are = ap (λ (y : Filters). take (y .count) (y .rows)) (told-filters f (knownElements x))
+      ∙ filters-law f x short fits (few-filters x e)
 
   drafts-are : Each (Drafted f) (take (t .drafts .count) (t .drafts .rows)) (kept (is "STATEMENT") (knownElements x))
   drafts-are = rw (told-drafts f (knownElements x)) (drafts-law f x short fits (all-formed x e) (few-statements x e))

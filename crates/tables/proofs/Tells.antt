@@ -24,12 +24,12 @@ use Rattle.schema.specs.SchemaCode.{kindName, kinds, kindAmong, askedFrom, aske
 use Rattle.schema.proofs.Every.{everywhere}
 use Rattle.file_rules.specs.Element.{Known, worthBy, goodOf, givenValue, given, has, repeated, misfit, valueOf}
 use Rattle.element.specs.ElementCode.{gatheredAt, firstNumber, valueAt}
-use Rattle.element.proofs.Gathers.{neither}
+use Rattle.lists.proofs.Parts.{neither}
 use Rattle.element.proofs.Laws.{Clean, clean-law, spelled-law}
-use Rattle.grammar.specs.Lex.{spans, namesIn}
+use Rattle.grammar.specs.TokensCode.{spans, namesIn}
 use Rattle.file_rules.specs.Reading.{is, triggerOf}
 use Rattle.element.specs.ReadingCode as reading
-use Rattle.tables.proofs.Readings.{number-law, id-law, length-law, error-law, startup-law}
+use Rattle.tables.proofs.Readings.{ranged-top, number-law, id-law, length-law, error-law, startup-law}
 use Rattle.document.specs.declared.Entry.{Entry}
 use Rattle.document.specs.DocumentCode.{entryOf}
 use Rattle.document.proofs.Absorbs.{any-append}
@@ -44,24 +44,8 @@ use Rattle.tables.specs.TablesCode.{namesAt}
 use Rattle.tables.proofs.Wanted.{Fit}
 use Rattle.tables.proofs.Nested.{kept-append}
 use Rattle.lists.specs.Lists.{any}
-use Rattle.lists.proofs.Fills.{set-next}
-
--- ---- an array of which the first rows are filled
-pub record RowsFilled {A : Type 0} (most : ℕ) (rows : List A) (count : ℕ) (done : List A) : Type 0 where
-  pub wide : length rows ≡ most
-  pub many : count ≡ length done
-  pub taken : take count rows ≡ done
-
-rows-none : {A : Type 0} (most : ℕ) (a : A) → RowsFilled most (replicate most a) 0 []
-rows-none most a = record { wide = length-replicate most a; many = refl; taken = refl }
-
-rows-more : {A : Type 0} (most : ℕ) (rows : List A) (count : ℕ) (done : List A) (x : A) → RowsFilled most rows count done → count < most
-    → RowsFilled most (set rows count x) (count + 1) (done ++ (x ∷ []))
-rows-more most rows count done x y h = record {
-  wide = length-set rows count x ∙ y .wide;
-  many = sym (length-append done (x ∷ []) ∙ ap (λ (n : ℕ). n + 1) (sym (y .many)));
-  taken = set-next rows count x (omega (arith, h, y .wide)) ∙ ap (λ (l : List _). l ++ (x ∷ [])) (y .taken);
-}
+use Rattle.lists.specs.FillsCode.{Filled}
+use Rattle.lists.proofs.Fills.{filled-none, filled-count, filled-one}
 
 -- ---- one known element after the other, of which at most so many are kept
 kept-snoc : (p : Known → Bool) (ds : List Known) (k : Known) → kept p (ds ++ (k ∷ [])) ≡ cond (p k) (kept p ds ++ (k ∷ [])) (kept p ds)
@@ -126,7 +110,7 @@ module _ (f : List ℕ) (k : Known) (y : Fit f k) where
 
 module _ (f : List ℕ) where
   abbrev TriggersHold : Triggers → List Known → Type 0
-  TriggersHold t ds = RowsFilled 32 (t .rows) (t .count) (map triggerOf (kept (isIn "TRIGGERS") ds))
+  TriggersHold t ds = Filled (map triggerOf (kept (isIn "TRIGGERS") ds)) (replicate 32 noTrigger) (t .rows) (t .count)
 
   trigger-turn : (t : Triggers) (ds : List Known) (k : Known) → Fit f k → length (kept (isIn "TRIGGERS") (ds ++ (k ∷ []))) ≤ 32
       → TriggersHold t ds → TriggersHold (tellTrigger f t (entryOf k)) (ds ++ (k ∷ []))
@@ -137,9 +121,9 @@ module _ (f : List ℕ) where
       let ms = kept (isIn "TRIGGERS") ds in
       let e = kept-in (isIn "TRIGGERS") ds k u in
       let n : length (ms ++ (k ∷ [])) ≤ 32 = rw e at h in
-      let c : t .count < 32 = omega (arith, n, length-append ms (k ∷ []), z .many, length-map ms triggerOf) in
+      let c : t .count < 32 = omega (arith, n, length-append ms (k ∷ []), filled-count z, length-map ms triggerOf) in
       rw (y .named, u, lt-ltb (t .count) 32 c, trigger-is f k y u, e, map-append triggerOf ms (k ∷ []))
-      (rows-more 32 (t .rows) (t .count) (map triggerOf ms) (triggerOf k) z c))
+      (filled-one (map triggerOf ms) (replicate 32 noTrigger) (t .rows) (t .count) (t .count + 1) (triggerOf k) z c refl))
       (λ u. rw (y .named, u, kept-out (isIn "TRIGGERS") ds k u) z)
 
   pub triggers-law : (ks : List Known) → All (Fit f) ks → length (kept (isIn "TRIGGERS") ks) ≤ 32
@@ -147,7 +131,7 @@ module _ (f : List ℕ) where
       ≡ map triggerOf (kept (isIn "TRIGGERS") ks)
   unfolding kept
   triggers-law ks y h =
-      fold-holds (tellTrigger f) f (isIn "TRIGGERS") 32 TriggersHold trigger-turn ks noTriggers y h (rows-none 32 noTrigger) .taken
+      fold-holds (tellTrigger f) f (isIn "TRIGGERS") 32 TriggersHold trigger-turn ks noTriggers y h (filled-none (replicate 32 noTrigger)) .words
 
 -- ---- names
 -- an attribute that the rules require is given
@@ -193,9 +177,9 @@ module _ (f : List ℕ) where
   nameAt k = valueAt (bytes "name") f (k .place)
 
   pub record NamesHold (n : Names) (ds : List Known) : Type 0 where
-    pub starts : RowsFilled 32 (n .starts) (n .count) (map (λ k. nameAt k .from) (kept (isIn "TRIGGERS") ds))
-    pub ends : RowsFilled 32 (n .ends) (n .count) (map (λ k. nameAt k .to) (kept (isIn "TRIGGERS") ds))
-    pub places : RowsFilled 32 (n .places) (n .count) (map (λ k. k .place) (kept (isIn "TRIGGERS") ds))
+    pub starts : Filled (map (λ k. nameAt k .from) (kept (isIn "TRIGGERS") ds)) (replicate 32 0) (n .starts) (n .count)
+    pub ends : Filled (map (λ k. nameAt k .to) (kept (isIn "TRIGGERS") ds)) (replicate 32 0) (n .ends) (n .count)
+    pub places : Filled (map (λ k. k .place) (kept (isIn "TRIGGERS") ds)) (replicate 32 0) (n .places) (n .count)
 
   name-turn : (n : Names) (ds : List Known) (k : Known) → Fit f k → length (kept (isIn "TRIGGERS") (ds ++ (k ∷ []))) ≤ 32 → NamesHold n ds
       → NamesHold (tellName f n (entryOf k)) (ds ++ (k ∷ []))
@@ -206,18 +190,18 @@ module _ (f : List ℕ) where
       let ms = kept (isIn "TRIGGERS") ds in
       let e = kept-in (isIn "TRIGGERS") ds k u in
       let m : length (ms ++ (k ∷ [])) ≤ 32 = rw e at h in
-      let c : n .count < 32 = omega (arith, m, length-append ms (k ∷ []), z .places .many, length-map ms (λ j. j .place)) in
+      let c : n .count < 32 = omega (arith, m, length-append ms (k ∷ []), filled-count (z .places), length-map ms (λ j. j .place)) in
       rw (y .named, u, lt-ltb (n .count) 32 c)
       (record {
         starts =
             rw (e, map-append (λ j. nameAt j .from) ms (k ∷ []))
-            (rows-more 32 (n .starts) (n .count) (map (λ j. nameAt j .from) ms) (nameAt k .from) (z .starts) c);
+            (filled-one (map (λ j. nameAt j .from) ms) (replicate 32 0) (n .starts) (n .count) (n .count + 1) (nameAt k .from) (z .starts) c refl);
         ends =
             rw (e, map-append (λ j. nameAt j .to) ms (k ∷ []))
-            (rows-more 32 (n .ends) (n .count) (map (λ j. nameAt j .to) ms) (nameAt k .to) (z .ends) c);
+            (filled-one (map (λ j. nameAt j .to) ms) (replicate 32 0) (n .ends) (n .count) (n .count + 1) (nameAt k .to) (z .ends) c refl);
         places =
             rw (e, map-append (λ j. j .place) ms (k ∷ []))
-            (rows-more 32 (n .places) (n .count) (map (λ j. j .place) ms) (k .place) (z .places) c);
+            (filled-one (map (λ j. j .place) ms) (replicate 32 0) (n .places) (n .count) (n .count + 1) (k .place) (z .places) c refl);
       }))
       (λ u.
       let e = kept-out (isIn "TRIGGERS") ds k u in
@@ -228,7 +212,7 @@ module _ (f : List ℕ) where
   unfolding kept
   names-hold ks y h =
       fold-holds (tellName f) f (isIn "TRIGGERS") 32 NamesHold name-turn ks noNames y h
-      (record { starts = rows-none 32 0; ends = rows-none 32 0; places = rows-none 32 0 })
+      (record { starts = filled-none (replicate 32 0); ends = filled-none (replicate 32 0); places = filled-none (replicate 32 0) })
 
   name-is : (k : Known) → Fit f k → isIn "TRIGGERS" k ≡ true → slice (nameAt k .from) (nameAt k .to) f ≡ Tables.nameOf k
   name-is k y t =
@@ -251,22 +235,16 @@ module _ (f : List ℕ) where
         let z = names-hold ks y h in
         let ms = kept (isIn "TRIGGERS") ks in
         let e = spans-are ms (kept-all (Fit f) (isIn "TRIGGERS") ks y) in
-        rw (z .starts .taken, z .ends .taken, e) (take-all 32 (map Tables.nameOf ms) (omega (arith, h, length-map ms Tables.nameOf)))
+        rw (z .starts .words, z .ends .words, e) (take-all 32 (map Tables.nameOf ms) (omega (arith, h, length-map ms Tables.nameOf)))
 
     pub places-law : take (folded (tellName f) noNames (map entryOf ks) .count) (folded (tellName f) noNames (map entryOf ks) .places)
         ≡ map (λ k. k .place) (kept (isIn "TRIGGERS") ks)
-    places-law = names-hold ks y h .places .taken
+    places-law = names-hold ks y h .places .words
 
 -- ---- PARAMETERS and MODE
-ranged-low : (n : Number) → goodOf (ranged 0 4 4 n) ≤ 4
-ranged-low Nothing = omega arith
-ranged-low (Value v) =
-    by-cases (leb 0 v && leb v 4) (λ t. rw t (by-cases (leb v 4) (λ u. rw u (leb-true v 4 u)) (λ u. rw u (omega arith))))
-    (λ t. rw t (omega arith))
-
 pub low-worth : (s : List ℕ) → goodOf (worthOf (0 to 4) s) ≤ 4
 unfolding worthOf
-low-worth s = ranged-low (numberSpelt s)
+low-worth s = ranged-top 0 4 4 (numberSpelt s)
 
 channel-low : (k : Known) → k .name ≡ kindName Parameters → valueOf k "channel" ≤ 4
 unfolding worthBy rulesIn elements kindName bytes same

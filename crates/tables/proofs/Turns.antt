@@ -10,7 +10,7 @@ use lib.Seq.{drop-cons, take-all, length-take-le, getD-take}
 use borrow.Author.Tests.{eq-eqb, ne-eqb}
 use Rattle.text.specs.Texts.{same}
 use Rattle.text.proofs.Spans.{drop-one}
-use Rattle.grammar.specs.Lex.{spans, namesIn}
+use Rattle.grammar.specs.TokensCode.{spans, namesIn}
 use Rattle.writer.proofs.Writes.{cut-is}
 use Rattle.document.specs.declared.Entry.{Entry}
 use Rattle.document.specs.declared.Index.{Index}

@@ -5,18 +5,18 @@ use mathlib.Core.List.{List, [], _∷_, map}
 use mathlib.Core.Bool.{true}
 use lib.ListN.{length, take}
 use Rattle.shape.specs.Shape.{Node}
-use Rattle.records.specs.Records.{actionWord}
+use Rattle.records.specs.Records.{actionWord, sumFrom}
 use Rattle.schema.specs.SchemaCode as schema
 use Rattle.file_rules.specs.Element.{Known, Fault, ownFaults, valueOf, textOf}
 use Rattle.element.specs.ElementCode.{shortText}
-use Rattle.file_rules.specs.Reading.{is, actionOf}
+use Rattle.file_rules.specs.Reading.{is, triggerOf, filterOf, actionOf}
 use Rattle.file_rules.specs.Document.{knownElements}
 use Rattle.document.specs.DocumentCode.{indexOf}
 use Rattle.document.proofs.Stood.{Stood}
 use Rattle.tables.specs.declared.rows.Draft.{Draft}
 use Rattle.tables.specs.declared.rows.Told.{Told}
 use Rattle.file_rules.specs.declared.Refusal.{Refusal}
-use Rattle.file_rules.specs.Tables.{kept, isIn, within, expressionsOf, tablesOf, tableFaults}
+use Rattle.file_rules.specs.Tables.{kept, isIn, within, channelsOf, expressionsOf, namesOf, logsAll, tableFaults}
 use Rattle.tables.specs.TablesCode.{namesAt, tableFault}
 use Rattle.file_rules.specs.RefusalCode.{refusedAt}
 
@@ -51,10 +51,11 @@ firstOf (a ∷ l) = refusedAt (a .number) (a .place)
 -- the tables of the document x
 pub record Reads (f : List ℕ) (x : Node) (t : Told) : Type 0 where
   pub channels : t .head .channels ≡ length (kept (is "PARAMETERS") (knownElements x))
-  pub log-all : t .head .all ≡ tablesOf (knownElements x) .logAll
-  pub triggers : take (t .triggers .count) (t .triggers .rows) ≡ tablesOf (knownElements x) .triggers
-  pub names : namesAt f (t .names) ≡ tablesOf (knownElements x) .names
-  pub filters : take (t .filters .count) (t .filters .rows) ≡ map (λ y. y .0) (tablesOf (knownElements x) .filters)
+  pub log-all : t .head .all ≡ logsAll (knownElements x)
+  pub triggers : take (t .triggers .count) (t .triggers .rows) ≡ map triggerOf (kept (isIn "TRIGGERS") (knownElements x))
+  pub names : namesAt f (t .names) ≡ namesOf (knownElements x)
+  pub filters : take (t .filters .count) (t .filters .rows)
+      ≡ map (λ k. filterOf (sumFrom 5 (channelsOf k)) k) (kept (isIn "FILTERS") (knownElements x))
   pub drafts : Each (Drafted f) (take (t .drafts .count) (t .drafts .rows)) (kept (is "STATEMENT") (knownElements x))
   pub fault : tableFault f (indexOf (knownElements x)) t ≡ firstOf (tableFaults (knownElements x))
   pub few-statements : length (kept (is "STATEMENT") (knownElements x)) ≤ 16

@@ -6,7 +6,7 @@ use mathlib.Core.Bool.{Bool, false, not, cond, _&&_}
 use lib.Dec.{leb, eqb}
 use lib.ListN.{take}
 use Rattle.text.specs.Texts.{bytes, same}
-use Rattle.grammar.specs.Lex.{namesIn}
+use Rattle.grammar.specs.TokensCode.{namesIn}
 use Rattle.schema.specs.declared.Kind.{Kind}
 use Rattle.file_rules.specs.Element.{goodOf}
 use Rattle.element.specs.ElementCode.{isKind, numbered}

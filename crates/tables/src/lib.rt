@@ -10,7 +10,7 @@ ghost use mathlib.Core.Bool.{false};
 ghost use Prim.Native.Nat.{_≤_};
 ghost use lib.ListN.{length, getD, take, drop};
 ghost use Rattle.text.specs.Texts.{same};
-ghost use Rattle.grammar.specs.Lex.{spans};
+ghost use Rattle.grammar.specs.TokensCode.{spans};
 ghost use Rattle.file_rules.specs.Element.{goodOf};
 ghost use Rattle.element.specs.ElementCode.{isKind};
 ghost use Rattle.tables.specs.RowsCode.{entriesOf};

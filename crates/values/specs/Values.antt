@@ -1,6 +1,8 @@
 -- Paper 01, "Values": numbers, timeouts, words and trigger names, and what a value is worth where its attribute asks for one of them.
-use Prim.Native.Nat.{ℕ, _+_, _*_, _-_}
-use mathlib.Core.List.{List, [], _∷_}
+use Prim.Native.Nat.{ℕ, _+_, _*_, _-_, _^_, _≤_}
+use mathlib.Core.Path.{_≡_}
+use mathlib.Core.Logic.{_⊎_}
+use mathlib.Core.List.{List, [], _∷_, _++_}
 use mathlib.Core.Bool.{Bool, true, false, not, _&&_, cond}
 use lib.Dec.{leb, ltb}
 use lib.ListN.{length, drop, take}
@@ -30,6 +32,19 @@ digits base n s = cond (leb 1 (length s) && leb (length s) n) (digitsFrom base 0
 -- "Number: 1 to 10 decimal digits, or `0x` and 1 to 8 hex digits of either case. Nothing else, no sign, no blank."
 unfoldable pub numberSpelt : List ℕ → Number
 numberSpelt s = cond (same (take 2 s) (bytes "0x")) (digits 16 8 (drop 2 s)) (digits 10 10 s)
+
+-- what digits of a base come to: the last are ones, those before it worth the base times as much
+unfoldable pub positional : ℕ → List ℕ → ℕ
+positional base [] = 0
+positional base (b ∷ s) = digit b * base ^ length s + positional base s
+
+-- 1 to n digits of the base, all of them, that spell v
+abbrev pub SpeltBy : ℕ → ℕ → List ℕ → ℕ → Type 0
+SpeltBy base n s v = (1 ≤ length s) × (length s ≤ n) × (all (λ b. ltb (digit b) base) s ≡ true) × (v ≡ positional base s)
+
+-- "1 to 10 decimal digits, or `0x` and 1 to 8 hex digits of either case. Nothing else"
+abbrev pub IsNumber : List ℕ → ℕ → Type 0
+IsNumber s v = SpeltBy 10 10 s v ⊎ ((h : List ℕ) × (s ≡ bytes "0x" ++ h) × SpeltBy 16 8 h v)
 
 -- one of two words: 0 or 1
 unfoldable pub eitherWord : List ℕ → List ℕ → List ℕ → Number

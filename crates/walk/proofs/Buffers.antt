@@ -6,7 +6,8 @@ use mathlib.Core.List.{List, [], _++_, append-assoc, append-nil}
 use lib.ListN.{length, getD, take, drop, set, length-append, length-drop, drop-of-length-le}
 use lib.Seq.{take-all, take-at, drop-at, drop-drop, length-take-le, take-append-add, take-append-le, take-nil}
 use Rattle.lists.proofs.Cases.{le-or-lt}
-use Rattle.lists.proofs.Fills.{Filled, filled-none, filled-all, filled-copy}
+use Rattle.lists.specs.FillsCode.{Filled}
+use Rattle.lists.proofs.Fills.{filled-none, filled-all, filled-copy}
 use Rattle.walk.specs.WalkCode.{LaidDown}
 
 -- the first n bytes of t are at the front of d

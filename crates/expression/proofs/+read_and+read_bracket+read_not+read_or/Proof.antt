@@ -21,6 +21,7 @@ use Prim.Native.Nat.{_+_, _-_, _*_, _≤_}
 use native.Mathlib.Omega.{arith}
 use mathlib.Core.Path.{_≡_, refl, _∙_}
 use lib.ListN.{length, length-set}
+use Rattle.lists.proofs.Fills.{filled-room}
 use Rattle.code.specs.Code.{wordOf}
 use Rattle.grammar.specs.Tree as tree
 use Rattle.grammar.proofs.Laws.{took, as-operand, More, more-none, more-one, chain-ends, chain-over, chain-breaks, no-chain, no-operand, and-first, or-first, close-first, a-word, not-operand, not-nothing, in-brackets, too-deep, nothing-inside, closes, not-closed, never-closed}
@@ -126,7 +127,7 @@ read-and-loop-holds :
     read-and.Post
     read-and-Inv-loop
     read-and-μ-loop
-read-and-loop-holds t c = let t = took (c .before .before .before .before .before .read-not .ensures) (c .before .first .given .1) .written in (t .on, omega (arith, t), refl, more-none (t .within))
+read-and-loop-holds t c = let t = took (c .before .before .before .before .before .read-not .ensures) (c .before .first .given .1) .written in (t .on, omega (arith, t), refl, more-none (t .within) (filled-room _ (t .filled) (t .filled .within)))
 
 read-and-mul-if1 :
     (t : ℕ) →
@@ -663,7 +664,7 @@ read-or-loop-holds :
     read-or.Post
     read-or-Inv-loop
     read-or-μ-loop
-read-or-loop-holds t c = let t = took (c .before .before .before .before .before .read-and .ensures) (c .before .first .given .1) .written in (t .on, omega (arith, t), refl, more-none (t .within))
+read-or-loop-holds t c = let t = took (c .before .before .before .before .before .read-and .ensures) (c .before .first .given .1) .written in (t .on, omega (arith, t), refl, more-none (t .within) (filled-room _ (t .filled) (t .filled .within)))
 
 read-or-mul-if1 :
     (t : ℕ) →

@@ -41,7 +41,7 @@ returns-3 : tie.Need-returns-3
 returns-3 c = c .no-words3 .ensures ∙ sym (some-unnamed (c .before .before .before .before .before .before .before .before .read-or .ensures) (c .before .before .before .before .before .i .given .1) (c .before .before .before .if1 .left) (sym (c .before .before .all-named .ensures) ∙ not-true _ (c .before .if2 .taken)))
 
 returns-4 : tie.Need-returns-4
-returns-4 c = sym (all-named (c .before .before .before .before .before .before .before .read-or .ensures) (c .before .before .before .before .i .given .1) (c .before .before .before .before .before .before .before .before .before .before .pre) (search needs) (c .before .before .if1 .left) (sym (c .before .all-named .ensures) ∙ not-false _ (c .if2 .left)))
+returns-4 c = sym (all-named (c .before .before .before .before .before .before .before .read-or .ensures) (c .before .before .before .before .i .given .1) (c .before .before .if1 .left) (sym (c .before .all-named .ensures) ∙ not-false _ (c .if2 .left)))
 
 pub compile-tokens-spec : {M : Type 1} → statement M
 compile-tokens-spec =

@@ -7,7 +7,7 @@ use mathlib.Core.Path.{_≡_, refl}
 use native.Mathlib.Omega.{arith}
 use lib.ListN.{length, take, drop}
 use Rattle.text.specs.Texts.{same}
-use Rattle.grammar.specs.Lex.{spans}
+use Rattle.grammar.specs.TokensCode.{spans}
 use Rattle.tables.proofs.Turns.{used-hit, used-on, used-none}
 use borrow.Author.Needs.{needs}
 use Rattle.lists.specs.Lists.{any}

@@ -6,6 +6,7 @@ use native.Mathlib.Omega.{arith}
 use native.Mathlib.Nat.{sub-zero}
 use Prim.Native.Nat.{_≤_, _-_, _*_}
 use mathlib.Core.Path.{_≡_, refl}
+use mathlib.Core.List.{map}
 use mathlib.Core.Logic.{⊎-elim}
 use lib.ListN.{drop}
 use Rattle.records.specs.RecordsCode.{filterSize, filterAt}
@@ -13,19 +14,20 @@ use Rattle.loader.specs.ScanCode.{recordsOf}
 use Rattle.loader.proofs.Laws.{records-end}
 use Rattle.engine.proofs.RowsLaws.{turn}
 use Rattle.event_rules.specs.Rules.{frame, passes}
+use Rattle.event_rules.specs.Calls.{filterRule}
 use Rattle.engine.proofs.Hits.{passesFrom}
 use Rattle.engine.proofs.FiltersTies.{from-rules}
 use Rattle.engine.proofs.FiltersLoops.{off-turn, pass-match, pass-turn, stop-turn}
 use borrow.Author.Needs.{needs}
 
 abbrev Inv-loop : tie.InvT-loop
-Inv-loop filters count f stopped₀ barred₀ at₀ i₀ stopped barred at i = (i ≤ count) × (at ≡ 7 * i) × (passesFrom stopped barred f (recordsOf filterSize filterAt (count - i) (drop at filters)) ≡ passes (recordsOf filterSize filterAt count filters) (frame f))
+Inv-loop filters count f stopped₀ barred₀ at₀ i₀ stopped barred at i = (i ≤ count) × (at ≡ 7 * i) × (passesFrom stopped barred f (map filterRule (recordsOf filterSize filterAt (count - i) (drop at filters))) ≡ passes (map filterRule (recordsOf filterSize filterAt count filters)) (frame f))
 
 abbrev μ-loop : tie.MeasureT-loop
 μ-loop filters count f stopped₀ barred₀ at₀ i₀ stopped barred at i = count - i
 
 loop-holds : tie.Need-loop-holds Inv-loop μ-loop
-loop-holds c = (omega arith, refl, rw (sub-zero (c .before .args .count)) (from-rules (c .before .args .f) (recordsOf filterSize filterAt (c .before .args .count) (c .before .args .filters .now))))
+loop-holds c = (omega arith, refl, rw (sub-zero (c .before .args .count)) (from-rules (c .before .args .f) (map filterRule (recordsOf filterSize filterAt (c .before .args .count) (c .before .args .filters .now)))))
 
 tail-requires : tie.Need-tail-requires Inv-loop μ-loop
 tail-requires c κs = search needs

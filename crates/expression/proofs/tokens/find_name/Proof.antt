@@ -7,7 +7,7 @@ use native.Mathlib.Omega.{arith}
 use mathlib.Core.Path.{_≡_, refl, sym, _∙_}
 use mathlib.Core.Logic.{inl, inr}
 use lib.ListN.{take, drop}
-use Rattle.grammar.specs.Lex.{spans, namesIn, find}
+use Rattle.grammar.specs.TokensCode.{spans, namesIn, find}
 use Rattle.grammar.proofs.Names.{find-hit, find-miss, find-over}
 use borrow.Author.Needs.{needs}
 

@@ -6,8 +6,7 @@ use Prim.Native.Nat.{_-_}
 use native.Mathlib.Omega.{arith}
 use mathlib.Core.Path.{sym, subst, _∙_}
 use lib.ListN.{length}
-use Rattle.grammar.specs.Lex.{namesIn}
-use Rattle.grammar.specs.TokensCode.{LexemeAt, lexed}
+use Rattle.grammar.specs.TokensCode.{namesIn, LexemeAt, lexed}
 use Rattle.grammar.proofs.Tokens.{Turn, first-turn, onwards, token-turn, blank-turn, wrong-there, full, all-read}
 use borrow.Author.Needs.{needs}
 
@@ -37,16 +36,16 @@ mul-tokens : tie.Need-mul-tokens Inv-loop μ-loop
 mul-tokens c = search needs
 
 array-write-tokens : tie.Need-array-write-tokens Inv-loop μ-loop
-array-write-tokens c = omega (arith, c .before .before .before .before .before .before .loop .inv .room, c .before .before .before .before .before .before .loop .inv .long)
+array-write-tokens c = omega (arith, c .before .before .before .before .before .before .loop .inv .laid)
 
 add-count : tie.Need-add-count Inv-loop μ-loop
-add-count c = omega (arith, c .before .before .before .before .before .before .loop .inv .room)
+add-count c = omega (arith, c .before .before .before .before .before .before .loop .inv .laid)
 
 loop-less : tie.Need-loop-less Inv-loop μ-loop
 loop-less c = omega (arith, onwards (subst (LexemeAt _ _ _) (c .before .before .t .given .1) (c .before .before .before .before .next-token .ensures)))
 
 loop-again : tie.Need-loop-again Inv-loop μ-loop
-loop-again c = token-turn (c .before .before .before .before .before .before .loop .inv) (omega (arith, c .before .before .before .before .before .before .loop .inv .room)) (subst (LexemeAt _ _ _) (c .before .before .t .given .1) (c .before .before .before .before .next-token .ensures))
+loop-again c = token-turn (c .before .before .before .before .before .before .loop .inv) (omega (arith, c .before .before .before .before .before .before .loop .inv .laid)) (subst (LexemeAt _ _ _) (c .before .before .t .given .1) (c .before .before .before .before .next-token .ensures))
 
 enum-told : tie.Need-enum-told Inv-loop μ-loop
 enum-told c = search needs

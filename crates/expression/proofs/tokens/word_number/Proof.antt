@@ -5,7 +5,7 @@ use Rattle.expression.proofs.tokens.word_number.Statement.{statement}
 use Rattle.expression.proofs.tokens.word_number.Tie as tie
 use mathlib.Core.Path.{sym, _∙_}
 use Rattle.text.specs.Texts.{bytes}
-use Rattle.grammar.specs.Lex.{numberOf}
+use Rattle.grammar.specs.TokensCode.{numberOf}
 
 slice-aggregate-same-text : tie.Need-slice-aggregate-same-text
 slice-aggregate-same-text c = search needs
