@@ -8,7 +8,8 @@ use mathlib.Core.List.{List, [], _∷_, map}
 use lib.ListN.{length}
 use lib.Dec.{leb, ltb}
 use borrow.Author.Tests.{lt-ltb, le-leb, ltb-true}
-use Rattle.code.specs.Code.{Op, push, both, either, invert, wordOf, opOf, and-then, topTwo, stepOp, runOps, stepWord, runWords, riseOp, rise, height, KnownTriggers}
+use Rattle.code.specs.Code.{Op, push, both, either, invert, wordOf, opOf, and-then, topTwo, stepOp, stepWord, runWords, KnownTriggers}
+use Rattle.code.specs.HeightsCode.{runOps, riseOp, rise, height}
 use Rattle.code.proofs.Words.{op-push, push-word}
 
 abbrev pub lengthOf : Option (List Bool) → Option ℕ

@@ -8,7 +8,8 @@ use mathlib.Core.List.{List}
 use lib.ListN.{length, drop, getD, drop-of-length-le}
 use lib.Dec.{leb, ltb, eqb}
 use borrow.Author.Tests.{eqb-true, eqb-false}
-use Rattle.code.specs.Code.{limit, riseOp, rise, height}
+use Rattle.code.specs.Code.{limit}
+use Rattle.code.specs.HeightsCode.{riseOp, rise, height}
 use Rattle.code.specs.LevelCode.{levelOf}
 use Rattle.code.specs.declared.Level.{Level}
 use Rattle.code.specs.declared.Level.the-variants.{To, Fault}

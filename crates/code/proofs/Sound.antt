@@ -10,7 +10,8 @@ use mathlib.Core.List.{List, [], _∷_, _++_}
 use lib.ListN.{length, getD}
 use lib.Dec.{ltb}
 use borrow.Author.Tests.{ltb-true, eqb-true}
-use Rattle.code.specs.Code.{Op, push, both, either, invert, opOf, limit, and-then, topTwo, stepOp, stepWord, runWords, onlyValue, valueOn, height, isOne, soundCode, KnownTriggers, Runs}
+use Rattle.code.specs.Code.{Op, push, both, either, invert, opOf, limit, and-then, topTwo, stepOp, stepWord, runWords, onlyValue, valueOn, KnownTriggers, Runs}
+use Rattle.code.specs.HeightsCode.{height, isOne, soundCode}
 use Rattle.code.specs.declared.Value.the-variants.{Is}
 use Rattle.code.proofs.Words.{push-word}
 use Rattle.code.proofs.Heights.{lengthOf, height-words, height-known}

@@ -2,13 +2,13 @@
 -- "Code is postfix, left operand first: 0 to 31 pushes that trigger's state (triggers count from 0 in file order), 32 AND, 33 OR, 34 NOT."
 -- "The loader takes a plan exactly if .. each pushed trigger below the plan's number of triggers ..
 -- and the code never pops from an empty stack, holds at most 24, and leaves one value."
-use Prim.Native.Nat.{ℕ, _+_, _-_, _≤_, _<_}
+use Prim.Native.Nat.{ℕ, _≤_, _<_}
 use mathlib.Core.Path.{_≡_}
 use mathlib.Core.Bool.{Bool, false, cond, not, _&&_, _||_}
 use mathlib.Core.Option.{Option, none, some}
 use mathlib.Core.List.{List, [], _∷_, _++_}
 use lib.ListN.{length, getD}
-use lib.Dec.{leb, ltb, eqb}
+use lib.Dec.{ltb, eqb}
 use Rattle.code.specs.declared.Value.{Value}
 use Rattle.code.specs.declared.Value.the-variants.{Is, Fault}
 
@@ -52,11 +52,7 @@ stepOp room v either st = topTwo _||_ st
 stepOp room v invert [] = none
 stepOp room v invert (a ∷ st) = some (not a ∷ st)
 
-unfoldable pub runOps : ℕ → (ℕ → Bool) → List Op → List Bool → Option (List Bool)
-runOps room v [] st = some st
-runOps room v (o ∷ c) st = and-then (stepOp room v o st) (runOps room v c)
-
--- the same on words: a word that is no instruction has no answer either
+-- the same of a word: one that is no instruction has no answer either
 unfoldable pub stepWord : ℕ → (ℕ → Bool) → ℕ → List Bool → Option (List Bool)
 stepWord room v w st = and-then (opOf w) (λ o. stepOp room v o st)
 
@@ -83,24 +79,3 @@ KnownTriggers triggers (w ∷ c) = (w < 32 → w < triggers) × KnownTriggers tr
 pub record Runs (v : ℕ → Bool) (c : List ℕ) : Type 0 where
   pub front : (a b : List ℕ) → c ≡ a ++ b → (st : List Bool) × (runWords limit v a [] ≡ some st) × (length st ≤ limit)
   pub whole : (b : Bool) × (runWords limit v c [] ≡ some (b ∷ []))
-
--- The same by heights of the stack, since the loader knows no states: the theorem `sound-exactly` says that the two agree.
-unfoldable pub riseOp : ℕ → ℕ → Op → ℕ → Option ℕ
-riseOp room triggers (push i) h = cond (ltb i triggers && ltb h room) (some (h + 1)) none
-riseOp room triggers both h = cond (leb 2 h) (some (h - 1)) none
-riseOp room triggers either h = cond (leb 2 h) (some (h - 1)) none
-riseOp room triggers invert h = cond (leb 1 h) (some h) none
-
-unfoldable pub rise : ℕ → ℕ → ℕ → ℕ → Option ℕ
-rise room triggers w h = and-then (opOf w) (λ o. riseOp room triggers o h)
-
-unfoldable pub height : ℕ → ℕ → List ℕ → ℕ → Option ℕ
-height room triggers [] h = some h
-height room triggers (w ∷ c) h = and-then (rise room triggers w h) (height room triggers c)
-
-abbrev pub isOne : Option ℕ → Bool
-isOne none = false
-isOne (some h) = eqb h 1
-
-unfoldable pub soundCode : ℕ → List ℕ → Bool
-soundCode triggers c = isOne (height limit triggers c 0)

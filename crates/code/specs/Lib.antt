@@ -1,4 +1,5 @@
--- `Code` is what a reader must believe; LevelCode and RunCode serve the contracts of inner functions.
+-- `Code` is what a reader must believe; HeightsCode, LevelCode and RunCode serve the contracts of inner functions.
 pub mod Code
+pub mod HeightsCode
 pub mod LevelCode
 pub mod RunCode

@@ -4,7 +4,8 @@
 // Promises: both answer as specs/Code.antt says, for any words; code that is ok never faults, whatever the states (`sound-code`, proofs/Sound.antt).
 // May not touch: what it is lent. It knows nothing of plans, events and files.
 ghost use mathlib.Core.Path.{_≡_};
-ghost use Rattle.code.specs.Code.{limit, rise as riseTo, soundCode};
+ghost use Rattle.code.specs.Code.{limit};
+ghost use Rattle.code.specs.HeightsCode.{rise as riseTo, soundCode};
 ghost use Rattle.code.specs.LevelCode.{levelOf};
 
 pub mod run;

@@ -79,6 +79,5 @@ pub data Converts (s d : List ℕ) : Converted → List ℕ → Type 0 where
   converts : (ws : List ℕ) → Meets s ws → length ws ≤ length d → Converts s d (Words (length ws)) (ws ++ drop (length ws) d)
 
 -- each answer's number and value: 0 and the plan's length, or the paper's number and place
-abbrev pub answered : Converted → ℕ × ℕ
-answered (Words n) = (0, n)
-answered (Refused n p) = (n, p)
+abbrev pub convertAnswer : Converted → ℕ × ℕ
+convertAnswer a = elim a [ Words n ↦ (0, n) | Refused n p ↦ (n, p) ]

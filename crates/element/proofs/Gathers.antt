@@ -14,7 +14,8 @@ use Rattle.text.proofs.Equal.{same-self, same-equal}
 use Rattle.values.specs.declared.Worth.{Worth}
 use Rattle.values.specs.declared.Sort.{Sort}
 use Rattle.values.specs.declared.Sort.the-variants.{Numeric, Timeout, YesNo, Protocol, TriggerName, Unread, Flexible}
-use Rattle.values.specs.Values.{digitsFrom, digits, numberSpelt, eitherWord, triggerName, worthOf}
+use Rattle.values.specs.Values.{eitherWord, triggerName, worthOf}
+use Rattle.values.specs.NumbersCode.{digitsFrom, digits, numberSpelt}
 use Rattle.shape.specs.Shape.{Attribute}
 use Rattle.schema.specs.declared.Kind.{Kind}
 use Rattle.schema.specs.declared.Asked.{Asked}

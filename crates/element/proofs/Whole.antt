@@ -1,7 +1,7 @@
 -- Every number of an element without faults is that of a whole value, or of its whole text.
 use Prim.Native.Nat.{ℕ}
-use mathlib.Core.Path.{_≡_, refl, sym, _∙_}
-use mathlib.Core.Logic.{inl, inr}
+use mathlib.Core.Path.{_≡_, refl, sym, subst, _∙_}
+use mathlib.Core.Logic.{_⊎_, inl, inr}
 use mathlib.Core.List.{List, [], _∷_}
 use mathlib.Core.Bool.{Bool, true, false, not, _&&_, true≢false}
 use lib.Dec.{leb}
@@ -15,18 +15,30 @@ use Rattle.values.specs.declared.Number.{Number}
 use Rattle.values.specs.declared.Number.the-variants.{Value, Nothing}
 use Rattle.values.specs.declared.Sort.{Sort}
 use Rattle.values.specs.declared.Sort.the-variants.{Numeric, Timeout, YesNo, Protocol, TriggerName, Unread, Flexible}
-use Rattle.values.specs.Values.{numberSpelt, ranged, worthOf, IsNumber}
+use Rattle.values.specs.Values.{ranged, worthOf}
+use Rattle.values.specs.Numbers.{IsNumber}
+use Rattle.values.specs.NumbersCode.{numberSpelt}
 use Rattle.values.proofs.Exact.{number-exactly}
 use Rattle.shape.specs.Shape.{Attribute}
 use Rattle.schema.specs.Schema.{Rule, _to_, rulesOf}
 use Rattle.schema.specs.SchemaCode.{apart}
 use Rattle.schema.proofs.Laws.{rules-distinct}
-use Rattle.file_rules.specs.Element.{Known, worthBy, isBad, isNotCarried, goodOf, givenValue, given, textOf, channelOf, misworded, WholeBy, ReadWhole}
+use Rattle.file_rules.specs.Element.{Known, worthBy, isBad, isNotCarried, goodOf, givenValue, valueOf, given, textOf, channelOf, misworded, ReadsWhole}
 use Rattle.file_rules.proofs.ElementLaws.{knows, knows-here, knows-later}
 use Rattle.element.proofs.Required.{both, names-apart}
 use Rattle.element.proofs.Laws.{Clean}
 
 -- ---- a value that is good
+-- where the sort asks for a number, v is that of the whole value s
+unfoldable WholeBy : Sort → List ℕ → ℕ → Type 0
+WholeBy (Numeric lo hi most) s v = IsNumber s v
+WholeBy Timeout s v = (same s (bytes "-1") ≡ true) ⊎ IsNumber s v
+WholeBy (YesNo most) s v = Unit {0}
+WholeBy Protocol s v = Unit {0}
+WholeBy TriggerName s v = Unit {0}
+WholeBy Unread s v = Unit {0}
+WholeBy Flexible s v = Unit {0}
+
 ranged-good : (lo hi most : ℕ) (n : Number) → isBad (ranged lo hi most n) ≡ false → isNotCarried (ranged lo hi most n) ≡ false
     → n ≡ Value (goodOf (ranged lo hi most n))
 ranged-good lo hi most Nothing b c = absurd (true≢false b)
@@ -74,17 +86,23 @@ every-own P (r ∷ rs) a f =
           f q (knows-later r rs (bytes (q .name)) t ∙ y .0, λ s. rw t (y .1 s))),
     )
 
-pub whole-values : (k : Known) → Clean k → Every (ReadWhole k) (rulesOf (k .name))
-unfolding ReadWhole
+pub whole-values : (k : Known) → Clean k → Every (ReadsWhole k) (rulesOf (k .name))
+unfolding WholeBy
 whole-values k c =
     let rs = rulesOf (k .name) in
-    every-own (ReadWhole k) rs (rules-distinct (k .name))
+    every-own (ReadsWhole k) rs (rules-distinct (k .name))
     (λ r y g.
     let n = bytes (r .name) in
     let s = givenValue n (k .attributes) in
+    let v = valueOf k (r .name) in
+    let w : WholeBy (r .sort) s v =
     rw (y .1 s)
     (good-whole (r .sort) s (rw (y .1 s) at (given-fails (λ a. isBad (worthBy rs a)) n (k .attributes) (c .good) g))
-    (rw (y .1 s) at (given-fails (λ a. isNotCarried (worthBy rs a)) n (k .attributes) (c .carried) g))))
+    (rw (y .1 s) at (given-fails (λ a. isNotCarried (worthBy rs a)) n (k .attributes) (c .carried) g))) in
+    record {
+      number = λ lo hi most e. subst (λ (q : Sort). WholeBy q s v) e w;
+      timeout = λ e. subst (λ (q : Sort). WholeBy q s v) e w;
+    })
 
 -- ---- the text of a CHANNEL
 ranged-carried : (lo hi : ℕ) (n : Number) → isNotCarried (ranged lo hi hi n) ≡ false

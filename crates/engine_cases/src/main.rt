@@ -1,5 +1,6 @@
-// Runs the cases of its standard input through the engine and prints each answer with the logging state behind it.
+// Runs the cases of its standard input through the engine and prints each answer with the logging state behind it and the counts.
 //
+// Every event goes through `host`, and the counts are those of the record that was lent to the call.
 // Promises: nothing but that it ends and touches no byte out of range; what it prints is held to the stored output.
 // A line is one letter and numbers: '#' is copied to the output, 'p' gives the plan's words, 'k' begins anew with four counts,
 // 'f' (frame), 'r' (remote frame), 'x' (extended frame) and 'e' (error frame) have channel, time, id and dlc, 't' (tick) a time.
@@ -7,6 +8,7 @@ ghost use Prim.Native.Nat.{_+_, _≤_, _<_};
 ghost use lib.ListN.{length};
 use event_rules::Answer;
 use event_rules::Counts;
+use event_rules::Engine;
 use event_rules::Frame;
 use event_rules::Logging;
 use event_rules::Outcome;
@@ -94,6 +96,28 @@ fn begin(recorded: u32, idle: u32, stopped: u32, halted: u32) -> Outcome {
     }
 }
 
+// One frame as a host gives it: the record stands in a local and is lent to the call.
+fn lend_frame(words: &[u32], en: Engine, before: Counts, f: Frame) -> Outcome {
+    let mut record = before;
+    let out = host::frame_into(words, en, &mut record, f);
+    Outcome {
+        answer: out.answer,
+        engine: out.engine,
+        counts: record,
+    }
+}
+
+// One tick, in the same way.
+fn lend_tick(words: &[u32], en: Engine, before: Counts, u: u64) -> Outcome {
+    let mut record = before;
+    let out = host::tick_into(words, en, &mut record, u);
+    Outcome {
+        answer: out.answer,
+        engine: out.engine,
+        counts: record,
+    }
+}
+
 fn take_frame(words: &[u32], o: Outcome, kind: u8, numbers: &[u64]) -> Outcome
     requires { ⌜ 4 ≤ length (now numbers) ⌝ }
 {
@@ -107,17 +131,13 @@ fn take_frame(words: &[u32], o: Outcome, kind: u8, numbers: &[u64]) -> Outcome
         dlc: narrow(numbers[3]),
         bytes: [0; 8],
     };
-    let engine = o.engine;
-    let counts = o.counts;
-    let next = engine::take_frame(words, engine, counts, f);
+    let next = lend_frame(words, o.engine, o.counts, f);
     say_outcome(next);
     next
 }
 
 fn take_tick(words: &[u32], o: Outcome, u: u64) -> Outcome {
-    let engine = o.engine;
-    let counts = o.counts;
-    let next = engine::take_tick(words, engine, counts, u);
+    let next = lend_tick(words, o.engine, o.counts, u);
     say_outcome(next);
     next
 }

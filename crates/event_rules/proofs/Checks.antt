@@ -4,7 +4,8 @@ use mathlib.Core.Path.{_≡_, refl}
 use mathlib.Core.List.{List, [], _∷_, map, zipWith}
 use mathlib.Core.Bool.{Bool, true, false}
 use lib.ListN.{replicate}
-use Rattle.code.specs.Code.{opOf, stepWord, runWords, valueOn, riseOp, rise, height, soundCode}
+use Rattle.code.specs.Code.{opOf, stepWord, runWords, valueOn}
+use Rattle.code.specs.HeightsCode.{riseOp, rise, height, soundCode}
 use Rattle.code.specs.Code as code
 use Rattle.records.specs.Records.{filterIn}
 use Rattle.loader.specs.Plan.{Plan, statementIn, inRange}
@@ -34,16 +35,6 @@ passAndStop = filterOf Pass 1 100 200 ∷ filterOf Stop 1 150 150 ∷ []
 pub filter-check : (passes (map filterRule passAndStop) (at 0 150) ≡ true) × (passes (map filterRule passAndStop) (at 0 99) ≡ false)
 unfolding passes firstMatch filtersOn matches
 filter-check = (refl, refl)
-
--- which of the channels 0 to 4 a mask is on
-abbrev pub channelsOf : ℕ → List Bool
-channelsOf mask = map (filterRule (filterOf Pass mask 0 0) .on) (0 ∷ 1 ∷ 2 ∷ 3 ∷ 4 ∷ [])
-
--- 2^2, 2^0 + 2^3, 2^3 + 2^4
-pub mask-check : (channelsOf 4 ≡ false ∷ false ∷ true ∷ false ∷ false ∷ [])
-    × (channelsOf 9 ≡ true ∷ false ∷ false ∷ true ∷ false ∷ [])
-    × (channelsOf 24 ≡ false ∷ false ∷ false ∷ true ∷ true ∷ [])
-mask-check = (refl, refl, refl)
 
 abbrev pub hundred : List Trigger
 hundred = record { cause = ids 150 150; timeout = Ms 100 } ∷ []

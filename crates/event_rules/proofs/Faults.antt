@@ -7,7 +7,7 @@ use mathlib.Core.Option.{some, Option·none-ne-some}
 use native.Mathlib.Omega.{arith}
 use lib.ListN.{length}
 use lib.Dec.{leb, eqb}
-use Rattle.code.specs.Code.{soundCode}
+use Rattle.code.specs.HeightsCode.{soundCode}
 use Rattle.code.proofs.Sound.{value-of-sound}
 use Rattle.records.specs.Records as plans
 use Rattle.loader.specs.Plan.{Plan, statementIn, inRange}

@@ -10,7 +10,7 @@ use Rattle.records.specs.Records as plans
 use Rattle.records.specs.Records.{idTop, dlcTop}
 use Rattle.loader.specs.Plan.{Plan, PlanOf}
 use Rattle.event_rules.specs.Types.{Filter, Frame, Off, Engine, Counts, Answer, Outcome}
-use Rattle.event_rules.specs.declared.Answer.the-variants as answers
+use Rattle.event_rules.specs.declared.Answer.the-variants.{Recorded, Idle, Stopped, Halted, Ticked, Refused}
 use Rattle.event_rules.specs.Rules.{Statement, MessageFilter, Config, Event, frame, tick, Result, gives, faults, process}
 
 -- Fresh: Off, nothing fired, all expressions false, counts 0, last time 0.
@@ -43,25 +43,20 @@ eventRefusal c en k (tick u) = cond (late (en .last) u) 22 0
 
 -- four counts (Recorded, Idle, Stopped, Halted) are the numbers of such answers
 abbrev pub counted : Counts → Answer → Counts
-counted k answers.Recorded = record { recorded = k .recorded + 1; idle = k .idle; stopped = k .stopped; halted = k .halted }
-counted k answers.Idle = record { recorded = k .recorded; idle = k .idle + 1; stopped = k .stopped; halted = k .halted }
-counted k answers.Stopped = record { recorded = k .recorded; idle = k .idle; stopped = k .stopped + 1; halted = k .halted }
-counted k answers.Halted = record { recorded = k .recorded; idle = k .idle; stopped = k .stopped; halted = k .halted + 1 }
-counted k answers.Ticked = k
-counted k (answers.Refused n) = k
+counted k Recorded = record { recorded = k .recorded + 1; idle = k .idle; stopped = k .stopped; halted = k .halted }
+counted k Idle = record { recorded = k .recorded; idle = k .idle + 1; stopped = k .stopped; halted = k .halted }
+counted k Stopped = record { recorded = k .recorded; idle = k .idle; stopped = k .stopped + 1; halted = k .halted }
+counted k Halted = record { recorded = k .recorded; idle = k .idle; stopped = k .stopped; halted = k .halted + 1 }
+counted k Ticked = k
+counted k (Refused n) = k
 
 -- the paper's refusal number and place for each answer
 abbrev pub answerRefusal : Answer → Option (ℕ × ℕ)
-answerRefusal answers.Recorded = none
-answerRefusal answers.Idle = none
-answerRefusal answers.Stopped = none
-answerRefusal answers.Halted = none
-answerRefusal answers.Ticked = none
-answerRefusal (answers.Refused n) = some (n, 0)
+answerRefusal a = elim a [ Recorded ↦ none | Idle ↦ none | Stopped ↦ none | Halted ↦ none | Ticked ↦ none | Refused n ↦ some (n, 0) ]
 
 -- a refused event changes nothing
 abbrev pub refused : ℕ → Engine → Counts → Outcome
-refused n en k = record { answer = answers.Refused n; engine = en; counts = k }
+refused n en k = record { answer = Refused n; engine = en; counts = k }
 
 -- 25: expression code fault while running
 abbrev pub closed : Engine → Counts → Result → Outcome

@@ -8,6 +8,7 @@ use lib.ListN.{length, drop}
 use lib.Dec.{leb, ltb, eqb}
 use Rattle.event_rules.specs.Types.{Value, Is, Fault, Cause, Id, Length, Error, Startup, Timeout, Forever, Ms, Trigger, Effect, Pass, Stop, Action, StartLog, StopLog, StopLogCompletely, Frame, Logging, Off, On, Ending, EndingCompletely, Halted, Firing, Engine, Answer}
 use Rattle.event_rules.specs.declared.Answer.the-variants as answers
+use Rattle.event_rules.specs.declared.Answer.the-variants.{Recorded, Idle}
 
 -- `holds` evaluates the statement's expression on the triggers' states
 pub record Statement : Type 0 where
@@ -47,11 +48,7 @@ answering (tick u) a = answers.Ticked
 
 -- 1. If halted: a frame answers Halted, a tick Ticked; nothing else but time and count changes.
 abbrev pub isHalted : Logging → Bool
-isHalted Off = false
-isHalted On = false
-isHalted (Ending e) = false
-isHalted (EndingCompletely e) = false
-isHalted Halted = true
+isHalted l = elim l [ Off ↦ false | On ↦ false | Ending e ↦ false | EndingCompletely e ↦ false | Halted ↦ true ]
 
 -- 2. If ending at e and time u >= e: Off, or Halted after a complete stop (then as 1).
 abbrev pub endedBy : ℕ → Logging → Logging
@@ -129,21 +126,10 @@ evaluated (s ∷ ss) now = andThen (s .holds now) (evaluated ss now)
 -- Start: Off or ending becomes On. Stop: On becomes ending at u + 1000 x posttrigger. Complete stop: Off becomes Halted; On becomes ending
 -- completely at that time; ending keeps its e and becomes ending completely. Every other pair changes nothing.
 abbrev pub act : ℕ → Action → Logging → Logging
-act end StartLog Off = On
-act end StartLog On = On
-act end StartLog (Ending e) = On
-act end StartLog (EndingCompletely e) = EndingCompletely e
-act end StartLog Halted = Halted
-act end StopLog Off = Off
-act end StopLog On = Ending end
-act end StopLog (Ending e) = Ending e
-act end StopLog (EndingCompletely e) = EndingCompletely e
-act end StopLog Halted = Halted
-act end StopLogCompletely Off = Halted
-act end StopLogCompletely On = EndingCompletely end
-act end StopLogCompletely (Ending e) = EndingCompletely e
-act end StopLogCompletely (EndingCompletely e) = EndingCompletely e
-act end StopLogCompletely Halted = Halted
+act end StartLog l = elim l [ Off ↦ On | On ↦ On | Ending e ↦ On | EndingCompletely e ↦ EndingCompletely e | Halted ↦ Halted ]
+act end StopLog l = elim l [ Off ↦ Off | On ↦ Ending end | Ending e ↦ Ending e | EndingCompletely e ↦ EndingCompletely e | Halted ↦ Halted ]
+act end StopLogCompletely l =
+    elim l [ Off ↦ Halted | On ↦ EndingCompletely end | Ending e ↦ EndingCompletely e | EndingCompletely e ↦ EndingCompletely e | Halted ↦ Halted ]
 
 unfoldable pub actAll : ℕ → List Action → Logging → Logging
 actAll end [] l = l
@@ -157,11 +143,7 @@ actions (s ∷ ss) u (r ∷ rose) l = actions ss u rose (cond r (actAll (u + 100
 
 -- 7. A frame answers Recorded if On or ending, else Idle.
 abbrev pub recordedOrIdle : Logging → Answer
-recordedOrIdle Off = answers.Idle
-recordedOrIdle On = answers.Recorded
-recordedOrIdle (Ending e) = answers.Recorded
-recordedOrIdle (EndingCompletely e) = answers.Recorded
-recordedOrIdle Halted = answers.Idle
+recordedOrIdle l = elim l [ Off ↦ Idle | On ↦ Recorded | Ending e ↦ Recorded | EndingCompletely e ↦ Recorded | Halted ↦ Idle ]
 
 -- ---- the steps in order: what an event gives that is not refused, or that its code is at fault
 pub data Result : Type 0 where
@@ -198,7 +180,7 @@ abbrev pub processFrom : Config → Engine → Event → Logging → Result
 processFrom c en e l =
     cond (isHalted l) (answered en l e answers.Halted)
     (cond (not (passes (c .filters) e)) (answered en l e answers.Stopped)
-    (cond (c .logAll) (answered en l e answers.Recorded)
+    (cond (c .logAll) (answered en l e Recorded)
     (triggered c en l e)))
 
 unfoldable pub process : Config → Engine → Event → Result

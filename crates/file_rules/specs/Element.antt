@@ -8,11 +8,11 @@ use mathlib.Core.Bool.{Bool, true, false, not, cond, _&&_, _||_}
 use lib.Dec.{leb, ltb, eqb}
 use lib.ListN.{length}
 use Rattle.text.specs.Texts.{bytes, same}
-use Rattle.values.specs.declared.Sort.{Sort}
-use Rattle.values.specs.declared.Sort.the-variants.{Numeric, Timeout, YesNo, Protocol, TriggerName, Unread, Flexible}
+use Rattle.values.specs.declared.Sort.the-variants.{Numeric, Timeout}
 use Rattle.values.specs.declared.Worth.{Worth}
 use Rattle.values.specs.declared.Worth.the-variants.{Good, Bad, NotCarried}
-use Rattle.values.specs.Values.{worthOf, IsNumber}
+use Rattle.values.specs.Values.{worthOf}
+use Rattle.values.specs.Numbers.{IsNumber}
 use Rattle.shape.specs.Shape.{Attribute, Items}
 use Rattle.shape.specs.Text.{joined, trimmed}
 use Rattle.schema.specs.declared.Times.the-variants.{Once, OneTo, UpTo}
@@ -29,25 +29,20 @@ pub record Known : Type 0 where
   pub items : Items
 
 -- ---- its values
--- what a value is worth by the rule for its attribute
+-- what a value is worth by the rule for its attribute; an attribute that no rule names has given 5 before this is asked
 unfoldable pub worthBy : List Rule → Attribute → Worth
 worthBy [] a = Good 0
 worthBy (r ∷ rs) a = cond (same (a .name) (bytes (r .name))) (worthOf (r .sort) (a .value)) (worthBy rs a)
 
 abbrev pub isBad : Worth → Bool
-isBad (Good v) = false
-isBad Bad = true
-isBad NotCarried = false
+isBad w = elim w [ Good v ↦ false | Bad ↦ true | NotCarried ↦ false ]
 
 abbrev pub isNotCarried : Worth → Bool
-isNotCarried (Good v) = false
-isNotCarried Bad = false
-isNotCarried NotCarried = true
+isNotCarried w = elim w [ Good v ↦ false | Bad ↦ false | NotCarried ↦ true ]
 
+-- the number that it gives. 0 where it gives none is never seen: such a value has given 6 or 7 before the number is asked for
 abbrev pub goodOf : Worth → ℕ
-goodOf (Good v) = v
-goodOf Bad = 0
-goodOf NotCarried = 0
+goodOf w = elim w [ Good v ↦ v | Bad ↦ 0 | NotCarried ↦ 0 ]
 
 -- the value of the attribute n, and the number that it gives; 0 where it gives none
 unfoldable pub givenValue : List ℕ → List Attribute → List ℕ
@@ -117,17 +112,11 @@ ownFaults k =
     ++ (6 at k .place if (any (λ a. isBad (worthBy (rulesOf (k .name)) a)) (k .attributes) || crossed k || misworded k)
     ++ 7 at k .place if any (λ a. isNotCarried (worthBy (rulesOf (k .name)) a)) (k .attributes))))
 
--- ---- "No mark inside a number is ever skipped"
--- where the sort asks for a number, v is that of the whole value s; "Only a timeout may also be `-1`"
-unfoldable pub WholeBy : Sort → List ℕ → ℕ → Type 0
-WholeBy (Numeric lo hi most) s v = IsNumber s v
-WholeBy Timeout s v = (same s (bytes "-1") ≡ true) ⊎ IsNumber s v
-WholeBy (YesNo most) s v = Unit {0}
-WholeBy Protocol s v = Unit {0}
-WholeBy TriggerName s v = Unit {0}
-WholeBy Unread s v = Unit {0}
-WholeBy Flexible s v = Unit {0}
+-- ---- "No mark inside a number is ever skipped": where k gives the attribute of the rule r, its number is that of the whole value. "Only a
+-- timeout may also be `-1`."
+pub record ReadWhole (r : Rule) (s : List ℕ) (v : ℕ) : Type 0 where
+  pub number : (lo hi most : ℕ) → r .sort ≡ Numeric lo hi most → IsNumber s v
+  pub timeout : r .sort ≡ Timeout → (same s (bytes "-1") ≡ true) ⊎ IsNumber s v
 
--- the attribute with the rule r, where k gives it
-unfoldable pub ReadWhole : Known → Rule → Type 0
-ReadWhole k r = has k (r .name) ≡ true → WholeBy (r .sort) (givenValue (bytes (r .name)) (k .attributes)) (valueOf k (r .name))
+abbrev pub ReadsWhole : Known → Rule → Type 0
+ReadsWhole k r = has k (r .name) ≡ true → ReadWhole r (givenValue (bytes (r .name)) (k .attributes)) (valueOf k (r .name))

@@ -1,4 +1,5 @@
--- Paper 01, "Values" and "The plan": what one element says, where it has no fault.
+-- Paper 01, "Values" and "The plan": what one element says. It is asked only where the element has no fault: each value is good then, and
+-- the last of several kinds is the one that is left.
 use Prim.Native.Nat.{ℕ}
 use Prim.Native.String.{String}
 use mathlib.Core.Bool.{Bool, cond}

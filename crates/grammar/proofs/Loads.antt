@@ -6,7 +6,8 @@ use mathlib.Core.Bool.{Bool, true, false}
 use mathlib.Core.Option.{none, some}
 use mathlib.Core.List.{List, [], _∷_, _++_, map}
 use lib.ListN.{length, getD, length-map}
-use Rattle.code.specs.Code.{Op, wordOf, limit, runWords, onlyValue, valueOn, soundCode, Runs}
+use Rattle.code.specs.Code.{Op, wordOf, limit, runWords, onlyValue, valueOn, Runs}
+use Rattle.code.specs.HeightsCode.{soundCode}
 use Rattle.code.specs.declared.Value.the-variants.{Is}
 use Rattle.code.proofs.Heights.{Below, Pushes, pushes-known, words-run}
 use Rattle.code.proofs.Sound.{code-sound, sound-code}

@@ -8,7 +8,8 @@ use mathlib.Core.List.{List, [], _∷_, _++_, append-assoc, append-nil}
 use lib.ListN.{length, length-append}
 use borrow.Author.Tests.{lt-ltb}
 use Rattle.grammar.specs.Tree.{Operator, or, and, Chain, only, join, Operand, chain, name, negate, bracket, Expression, print, printed, depth, deep, mean, means, joins, code, coded, joiner}
-use Rattle.code.specs.Code.{Op, invert, stepOp, runOps}
+use Rattle.code.specs.Code.{Op, invert, stepOp}
+use Rattle.code.specs.HeightsCode.{runOps}
 
 -- values that a chain may lay on the stack besides two for each depth
 abbrev pub spare : Operator → ℕ

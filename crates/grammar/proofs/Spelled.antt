@@ -8,8 +8,9 @@ use mathlib.Core.List.{List, [], _∷_, _++_, map, append-assoc, append-nil}
 use lib.Dec.{eqb}
 use borrow.Author.Tests.{eqb-true}
 use Rattle.text.specs.Kinds.{isBlank, isStart, isDigit, isName}
+use Rattle.lists.specs.Lists.{Every}
 use Rattle.lists.proofs.Cases.{by-cases}
-use Rattle.grammar.specs.Lex.{Token, open′, close′, tokenOf, Letters, inWord, Spells, over, blank, opening, closing, letters}
+use Rattle.grammar.specs.Lex.{Token, open′, close′, tokenOf, inWord, Spells, over, blank, opening, closing, letters}
 use Rattle.grammar.specs.TokensCode.{putToken, wordEnds, lexFrom, lex, numberOf, mapped, numbers, lexed, laidTokens, unfitTokens}
 
 -- a blank is of no word
@@ -22,8 +23,11 @@ blank-no-name b e =
     by-cases (eqb b 10) (λ p. rw (eqb-true b 10 p)) λ n₃. absurd (false≢true (rw (n₀, n₁, n₂, n₃) at e))
 
 -- the rest of a word, and a word's end
+abbrev Letters : List ℕ → Type 0
+Letters w = Every (λ b. isName b ≡ true) w
+
 lex-letters : (u w s : List ℕ) → Letters w → lexFrom u (w ++ s) ≡ lexFrom (u ++ w) s
-unfolding lexFrom
+unfolding lexFrom Every
 lex-letters u [] s e = rw (append-nil u)
 lex-letters u (b ∷ w) s e = rw (e .0) (lex-letters (u ++ (b ∷ [])) w s (e .1) ∙ rw (append-assoc u (b ∷ []) w))
 
@@ -60,11 +64,12 @@ found-ends [] s r e n f = f
 found-ends (b ∷ w) s r e n f = found-put (tokenOf (b ∷ w)) s ((b ∷ w) ++ s) r (λ ts p. letters b w e n p) f
 
 one-more : (w : List ℕ) (b : ℕ) → Letters w → isName b ≡ true → Letters (w ++ (b ∷ []))
+unfolding Every
 one-more [] b l e = (e, tt)
 one-more (x ∷ w) b l e = (l .0, one-more w b (l .1) e)
 
 lex-found : (w s : List ℕ) → Letters w → Found (w ++ s) (lexFrom w s)
-unfolding lexFrom
+unfolding lexFrom Every
 lex-found w [] l = found-ends w [] (some []) l refl over
 lex-found w (b ∷ s) l =
     let f = lex-found [] s tt in
@@ -80,7 +85,7 @@ lex-found w (b ∷ s) l =
     λ n₃. rw (n, n₁, n₂, n₃) (found-ends w (b ∷ s) none l n tt)
 
 pub spelled : (s : List ℕ) (ts : List (Token (List ℕ))) → (lex s ≡ some ts) ↔ Spells s ts
-unfolding lex
+unfolding lex Every
 spelled s ts = (λ e. rw e at (lex-found [] s tt), spells-lex)
 
 -- so this is what `tokenise` answers
@@ -90,7 +95,7 @@ module _ (names : List (List ℕ)) (s : List ℕ) where
   lexed-spelled ts p = rw (spells-lex p)
 
   pub lexed-faulty : ((ts : List (Token (List ℕ))) → Spells s ts → ⊥) → lexed names s ≡ unfitTokens
-  unfolding lexed numbers lex
+  unfolding lexed numbers lex Every
   lexed-faulty h = go (lex s) (lex-found [] s tt)
     where
       go : (r : Option (List (Token (List ℕ)))) → Found s r → laidTokens (mapped (map (numberOf names)) r) ≡ unfitTokens

@@ -10,7 +10,8 @@ use lib.Seq.{drop-drop}
 use borrow.Author.Tests.{eq-eqb, ne-eqb, le-leb, lt-leb}
 use Rattle.lists.specs.FillsCode.{Filled}
 use Rattle.lists.proofs.Fills.{filled-none, filled-all, filled-take, filled-count, filled-one}
-use Rattle.text.specs.Kinds.{isBlank, isName, spanAt}
+use Rattle.text.specs.Kinds.{isBlank, isName}
+use Rattle.text.specs.SpansCode.{spanAt}
 use Rattle.lists.proofs.Cases.{by-cases}
 use Rattle.text.proofs.Spans.{drop-one, span-more, high-of}
 use Rattle.grammar.specs.Lex.{Token, open′, close′, tokenOf}

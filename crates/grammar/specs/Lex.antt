@@ -4,6 +4,7 @@ use Prim.Native.Nat.{ℕ}
 use mathlib.Core.Path.{_≡_}
 use mathlib.Core.Bool.{Bool, true, false, cond}
 use mathlib.Core.List.{List, [], _∷_, _++_}
+use Rattle.lists.specs.Lists.{Every}
 use Rattle.text.specs.Texts.{bytes, _▹_, same}
 use Rattle.text.specs.Kinds.{isBlank, isName}
 
@@ -15,11 +16,6 @@ pub data Token (N : Type 0) : Type 0 where
 -- the token that a word is
 abbrev pub tokenOf : List ℕ → Token (List ℕ)
 tokenOf w = cond (same w (bytes "AND")) AND (cond (same w (bytes "OR")) OR (cond (same w (bytes "NOT")) NOT (word w)))
-
--- letters, digits and `_` only
-abbrev pub Letters : List ℕ → Type 0
-Letters [] = Unit {0}
-Letters (b ∷ w) = (isName b ≡ true) × Letters w
 
 -- does a byte of a word stand at the front
 abbrev pub inWord : List ℕ → Bool
@@ -38,7 +34,7 @@ pub data Spells : List ℕ → List (Token (List ℕ)) → Type 0 where
   closing : {s : List ℕ} {ts : List (Token (List ℕ))} → Spells s ts → Spells (")" ▹ s) (close′ ∷ ts)
   letters :
       (b : ℕ) (w : List ℕ) {s : List ℕ} {ts : List (Token (List ℕ))}
-      → Letters (b ∷ w)
+      → Every (λ c. isName c ≡ true) (b ∷ w)
       → inWord s ≡ false
       → Spells s ts
       → Spells ((b ∷ w) ++ s) (tokenOf (b ∷ w) ∷ ts)

@@ -28,7 +28,8 @@ Named names (NOT ∷ l) = Named names l
 Named names (open′ ∷ l) = Named names l
 Named names (close′ ∷ l) = Named names l
 
--- the number of the trigger of that name: how many stand before the first of them
+-- the number of the trigger of that name: how many stand before the first of them. It is asked only of names that a trigger has: any other
+-- has given 12.
 unfoldable pub numberIn : List (List ℕ) → List ℕ → ℕ
 numberIn [] w = 0
 numberIn (n ∷ names) w = cond (same w n) 0 (suc (numberIn names w))

@@ -27,8 +27,7 @@ Expression N = Chain N or
 
 -- the grammar: an expression is what some tree prints to
 abbrev pub mark : {N : Type 0} → Operator → Token N
-mark or = OR
-mark and = AND
+mark b = elim b [ or ↦ OR | and ↦ AND ]
 
 unfoldable mutual
   pub print : {N : Type 0} {b : Operator} → Chain N b → List (Token N)
@@ -55,8 +54,7 @@ unfoldable mutual
 
 -- what a tree says where v has the triggers' states
 abbrev pub joins : Operator → Bool → Bool → Bool
-joins or = _||_
-joins and = _&&_
+joins b = elim b [ or ↦ _||_ | and ↦ _&&_ ]
 
 unfoldable mutual
   pub mean : {N : Type 0} {b : Operator} → Chain N b → (N → Bool) → Bool
@@ -71,8 +69,7 @@ unfoldable mutual
 
 -- "Code is postfix, left operand first"; `num` has the names' numbers
 abbrev pub joiner : Operator → Op
-joiner or = either
-joiner and = both
+joiner b = elim b [ or ↦ either | and ↦ both ]
 
 unfoldable mutual
   pub code : {N : Type 0} {b : Operator} → (N → ℕ) → Chain N b → List Op

@@ -8,7 +8,7 @@ use lib.ListN.{length, getD, drop, length-append, length-map, take-append-drop, 
 use lib.Seq.{drop-drop, take-at, drop-at, take-append-seam, length-take-le}
 use lib.Dec.{leb, eqb}
 use borrow.Author.Tests.{leb-true, eq-eqb, ne-eqb, eqb-true}
-use Rattle.code.specs.Code.{soundCode}
+use Rattle.code.specs.HeightsCode.{soundCode}
 use Rattle.records.specs.Records.{PlanStatement, flag, timeoutWord, causeWords, triggerWords, effectWord, filterWords, actionWord, statementWords, timeoutIn, causeIn, triggerIn, filterIn}
 use Rattle.loader.specs.Plan.{statementIn}
 use Rattle.records.specs.RecordsCode.{timeoutAt, causeAt, triggerAt, effectAt, filterAt, actionAt, actionsAt, codeAt, statementAt, triggerSize, filterSize, statementSize}

@@ -9,7 +9,7 @@ use lib.ListN.{length, getD, take, drop, drop-of-length-le}
 use lib.Seq.{drop-cons, drop-drop}
 use lib.Dec.{leb}
 use borrow.Author.Tests.{le-leb, lt-leb, leb-true, eq-eqb, ne-eqb}
-use Rattle.code.specs.Code.{soundCode}
+use Rattle.code.specs.HeightsCode.{soundCode}
 use Rattle.records.specs.Records.{triggerWords, timeoutIn, causeIn, triggerIn, filterWords, filterIn}
 use Rattle.records.specs.RecordsCode.{triggerAt, filterAt, statementSize}
 use Rattle.loader.specs.ScanCode.{starts, triggerOk, filterOk, actionOk, actionsOk, statementOk, sizeOf, fits, scanOf}

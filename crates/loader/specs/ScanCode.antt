@@ -5,7 +5,7 @@ use mathlib.Core.List.{List, [], _∷_, map}
 use mathlib.Core.Bool.{Bool, true, false, _&&_, cond}
 use lib.ListN.{length, getD, take, drop}
 use lib.Dec.{leb, eqb}
-use Rattle.code.specs.Code.{soundCode}
+use Rattle.code.specs.HeightsCode.{soundCode}
 use Rattle.loader.specs.Plan.{Plan}
 use Rattle.records.specs.Records.{newest, triggerWords, triggerIn, filterWords, filterIn}
 use Rattle.records.specs.RecordsCode.{triggerAt, filterAt, actionsAt, codeAt, statementAt, triggerSize, filterSize, statementSize}

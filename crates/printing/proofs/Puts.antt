@@ -6,7 +6,7 @@ use mathlib.Core.List.{List, [], _∷_, _++_, append-assoc, append-nil}
 use native.Mathlib.Omega.{arith}
 use native.Mathlib.Numerals.{add-one}
 use lib.ListN.{length, getD, set, take, drop, length-take, length-drop, length-append, length-set, drop-of-length-le}
-use lib.Seq.{take-all, take-nil, take-suc, take-append-le, drop-cons, set-at, append-snoc}
+use lib.Seq.{take-all, take-nil, take-suc, take-append-le}
 use borrow.Author.Tests.{lt-ltb, le-ltb}
 use Rattle.text.specs.Texts.{bytes}
 use Rattle.converter.specs.declared.Converted.{Converted}
@@ -16,52 +16,50 @@ use Rattle.printing.specs.declared.Form.{Form}
 use Rattle.printing.specs.declared.Form.the-variants as forms
 use Rattle.printing.specs.Printing.{digitsOf, decimal, textLine, refusalText, planText, wordLines, wordsText, formText, printedOver, Prints, prints}
 use Rattle.printing.specs.PrintingCode.{Put, Adds}
-use Rattle.lists.proofs.Fills.{taken}
-
--- where the whole text fits
-whole : (t d : List ℕ) → length t ≤ length d → printedOver t d ≡ t ++ drop (length t) d
-unfolding printedOver
-whole t d h = rw (take-all (length d) t h)
-
--- where it does not
-cut : (t d : List ℕ) → length d ≤ length t → printedOver t d ≡ take (length d) t
-unfolding printedOver
-cut t d h = rw (drop-of-length-le d h) (append-nil (take (length d) t))
-
--- where it is cut off, what stands behind it changes nothing
-cut-more : (t u d : List ℕ) → length d ≤ length t → printedOver (t ++ u) d ≡ printedOver t d
-cut-more t u d h = cut (t ++ u) d (omega (arith, length-append t u)) ∙ take-append-le (length d) t u h ∙ sym (cut t d h)
+use Rattle.lists.specs.FillsCode.{Filled}
+use Rattle.lists.proofs.Cases.{le-or-lt}
+use Rattle.lists.proofs.Fills.{taken, filled-none, filled-all, filled-one}
 
 pub length-printed : (t d : List ℕ) → length (printedOver t d) ≡ length d
 unfolding printedOver
 length-printed t d = simp (length-append, length-take, length-drop) (omega arith)
 
+-- what was put is as much of the text as there is room for
+cut-behind : (t d : List ℕ) → drop (min (length t) (length d)) d ≡ drop (length t) d
+cut-behind t d =
+    le-or-lt (length t) (length d) (λ h. let e : min (length t) (length d) ≡ length t = omega arith in ap (λ (n : ℕ). drop n d) e)
+    (λ h.
+    let e : min (length t) (length d) ≡ length d = omega arith in
+    ap (λ (n : ℕ). drop n d) e ∙ drop-of-length-le d {i = length d} (omega arith) ∙ sym (drop-of-length-le d {i = length t} (omega (arith, h))))
+
+put-text : {t d e : List ℕ} {r : ℕ} → Put t d r e → e ≡ printedOver t d
+unfolding printedOver
+put-text {t} {d} p =
+    filled-all (p .filled) ∙ ap (λ (l : List ℕ). take (length d) t ++ l) (ap (λ (n : ℕ). drop n d) (p .count) ∙ cut-behind t d)
+
 -- ---- a byte
 module _ (b at : ℕ) (d t c : List ℕ) (p : Put t c at d) where
-  same-room : length d ≡ length c
-  same-room = ap length (p .text) ∙ length-printed t c
-
   longer : length (t ++ b ∷ []) ≡ length t + 1
   longer = length-append t (b ∷ [])
 
   byte-there : at < length d → Put (t ++ b ∷ []) c (at + 1) (set d at b)
   byte-there h =
-      let k : length t ≡ at = omega (arith, same-room, p .count) in
-      let i : length t < length c = omega (arith, same-room) in
-      let w : d ≡ t ++ getD c (length t) 0 ∷ drop (suc (length t)) c =
-      p .text ∙ whole t c (omega arith) ∙ ap (λ (l : List ℕ). t ++ l) (drop-cons c (length t) 0 i) in
-      let v : printedOver (t ++ b ∷ []) c ≡ t ++ b ∷ drop (suc (length t)) c =
-      whole (t ++ b ∷ []) c (omega (arith, longer)) ∙ ap (λ (n : ℕ). (t ++ b ∷ []) ++ drop n c) (longer ∙ add-one (length t))
-      ∙ append-snoc t b (drop (suc (length t)) c) in
+      let k : length t ≡ at = omega (arith, p .filled .long, p .count) in
+      let f : Filled t c d at = rw (take-all (length c) t (omega (arith, p .filled .long))) at (p .filled) in
       record {
-        count = omega (arith, longer);
-        text = ap (λ (l : List ℕ). set l at b) w ∙ set-at t (getD c (length t) 0) (drop (suc (length t)) c) b at k ∙ sym v;
+        count = omega (arith, longer, p .filled .long);
+        filled =
+            rw (take-all (length c) (t ++ b ∷ []) (omega (arith, longer, p .filled .long)))
+            (filled-one t c d at (at + 1) b f (omega (arith, p .filled .long)) refl);
       }
 
   byte-lost : length d ≤ at → Put (t ++ b ∷ []) c at d
   byte-lost h =
-      let i : length c ≤ length t = omega (arith, same-room, p .count) in
-      record { count = omega (arith, longer, same-room, p .count); text = p .text ∙ sym (cut-more t (b ∷ []) c i) }
+      let i : length c ≤ length t = omega (arith, p .filled .long, p .count) in
+      record {
+        count = omega (arith, longer, p .filled .long, p .count);
+        filled = rw (take-append-le (length c) t (b ∷ []) i) (p .filled);
+      }
 
 pub byte-written : (b at : ℕ) (d : List ℕ) → at < length d → Adds (b ∷ []) at d (at + 1) (set d at b)
 byte-written b at d h = record { place = omega arith; long = length-set d at b; added = λ t c p. byte-there b at d t c p h }
@@ -82,8 +80,7 @@ adds-more {u} {v} {d} {e} {f} {at} {r} {q} a b = record {
 
 -- from the start of the buffer
 pub adds-all : {u d e : List ℕ} {r : ℕ} → Adds u 0 d r e → Put u d r e
-unfolding printedOver
-adds-all {u} {d} {e} {r} a = a .added [] d (record { count = omega arith; text = rw (take-nil (length d)) })
+adds-all {u} {d} {e} {r} a = a .added [] d (record { count = omega arith; filled = rw (take-nil (length d)) (filled-none d) })
 
 -- a copy, byte by byte
 pub copied-more : (s d e f : List ℕ) (from i at r : ℕ) → Adds (take i s) from d at e → i < length s → Adds (getD s i 0 ∷ []) at e r f
@@ -159,7 +156,7 @@ summed ws n pa pb pc pf pg x1 x2 x3 x4 x5 x6 =
 -- ---- the answer of `convert`, told
 told : {say : Converted → List ℕ → List ℕ} {s d e t f : List ℕ} {a b : Converted} {r : ℕ} → Converts s d a e → a ≡ b → Put (say b e) t r f
     → Prints say s d t r e f
-told {say} {s} {d} {e} {t} {f} {a} {b} {r} h q p = rw (p .count, p .text) (prints b e (rw q at h))
+told {say} {s} {d} {e} {t} {f} {a} {b} {r} h q p = rw (p .count, put-text p) (prints b e (rw q at h))
 
 module _ {form : Form} {s d e t f : List ℕ} {a : Converted} {r n : ℕ} (h : Converts s d a e) where
   pub told-plan : a ≡ Words n → form ≡ forms.Plan → Put (planText (Words n) e) t r f → Prints (formText form) s d t r e f

@@ -2,13 +2,13 @@
 use Prim.Native.Nat.{ℕ, _≤_, min}
 use mathlib.Core.Path.{_≡_}
 use mathlib.Core.List.{List, _++_}
-use lib.ListN.{length}
-use Rattle.printing.specs.Printing.{printedOver}
+use lib.ListN.{length, take}
+use Rattle.lists.specs.FillsCode.{Filled}
 
 -- d became e: the text t, and r says how many bytes of it there was room for
 pub record Put (t d : List ℕ) (r : ℕ) (e : List ℕ) : Type 0 where
   pub count : r ≡ min (length t) (length d)
-  pub text : e ≡ printedOver t d
+  pub filled : Filled (take (length d) t) d e r
 
 -- d became e: whatever text reached to `at` now has u behind it and reaches to r
 pub record Adds (u : List ℕ) (at : ℕ) (d : List ℕ) (r : ℕ) (e : List ℕ) : Type 0 where

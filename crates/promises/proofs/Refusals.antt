@@ -14,7 +14,7 @@ use Rattle.loader.specs.declared.Loaded.{Loaded}
 use Rattle.loader.specs.Plan.{PlanOf, Loads, loadRefusal}
 use Rattle.converter.specs.declared.Converted.{Converted}
 use Rattle.converter.specs.declared.Converted.the-variants.{Words, Refused}
-use Rattle.converter.specs.Converter.{Refuses, Converts, answered}
+use Rattle.converter.specs.Converter.{Refuses, Converts, convertAnswer}
 use Rattle.converter.proofs.Once.{one-converted}
 use Rattle.read_back.proofs.Places.{refusal-top, places}
 use Rattle.converter_c.specs.Calls.{packed, Converting, converting}
@@ -34,7 +34,7 @@ use Rattle.promises.specs.Promises.{Rejects, AboutFiles, AboutConverting
 
 -- ---- files
 module _ (s d : List ℕ) where
-  refuses-so : (r : Converted) (out : List ℕ) → Converts s d r out → (n p : ℕ) → answered r ≡ (n, p) → 1 ≤ n → Refuses s (length d) n p
+  refuses-so : (r : Converted) (out : List ℕ) → Converts s d r out → (n p : ℕ) → convertAnswer r ≡ (n, p) → 1 ≤ n → Refuses s (length d) n p
   refuses-so r out (Converts.refuses m q a) n p e h =
       subst (λ (z : ℕ × ℕ). Refuses s (length d) (z .0) (z .1)) e a
   refuses-so r out (Converts.converts ws m l) n p e h = absurd (omega (arith, h, ap (λ (z : ℕ × ℕ). z .0) e))
@@ -48,7 +48,7 @@ module _ (s d : List ℕ) where
     about-files = record {
       exactly = λ n p. (
         λ e. refuses-so r out h n p (e .0) (e .1),
-        λ a. (ap answered (so-answered n p a .0), refusal-top s (length d) n p a .0),
+        λ a. (ap convertAnswer (so-answered n p a .0), refusal-top s (length d) n p a .0),
       );
       stays = λ n p a. so-answered n p a .1;
       only = λ r′ out′ g. one-converted s d r r′ out out′ h g;
@@ -153,5 +153,5 @@ module _ (ws : List ℕ) (en : Engine) (k : Counts) (e : Event) where
   }
 
   pub record-kept : (after : Counts) (o : Outcome) → Answers ws en k e o → after ≡ o .counts → (n : ℕ)
-      → answerRefusal (o .answer) ≡ some (n, 0) → after ≡ k
-  record-kept after o a h n g = h ∙ ap (λ (x : Outcome). x .counts) (rejected o n a (rejects o n a g))
+      → Rejects ws en k e n → after ≡ k
+  record-kept after o a h n r = h ∙ ap (λ (x : Outcome). x .counts) (rejected o n a r)

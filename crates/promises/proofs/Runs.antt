@@ -109,7 +109,7 @@ module _ (s ws : List ℕ) (b : Taken-back s ws) where
   ran = configOf (planFor (b .statements) ks)
 
   -- it is the document's own
-  ran-is : (c : Config) → Says (b .document) c → ran ≡ c
+  ran-is : (c : Config) → Says ks c → ran ≡ c
   unfolding planFor
   ran-is c o =
       let f : ran .filters ≡ c .filters = filters-same (kept (isIn "FILTERS") ks) (b .filters) ∙ sym (o .filters) in
@@ -123,7 +123,7 @@ module _ (s ws : List ℕ) (b : Taken-back s ws) where
         statements = g i;
       }
 
-  ran-says : Says (b .document) ran
+  ran-says : Says ks ran
   unfolding planFor
   ran-says = record {
     channels = refl;
@@ -133,10 +133,10 @@ module _ (s ws : List ℕ) (b : Taken-back s ws) where
     statements = statements-own (namesOf ks) (kept (is "STATEMENT") ks) (b .statements) (b .coded);
   }
 
-  read-as : (c : Config) → Says (b .document) c → (p : PlanOf ws) → configOf (p .plan) ≡ c
+  read-as : (c : Config) → Says ks c → (p : PlanOf ws) → configOf (p .plan) ≡ c
   read-as c o p = ap configOf (b .reads-back p) ∙ ran-is c o
 
-  module _ (c : Config) (o : Says (b .document) c) where
+  module _ (c : Config) (o : Says ks c) where
     call-same : (en : Engine) (k : Counts) (e : Event) (r : Outcome) → Answers ws en k e r → r ≡ step c en k e
     call-same en k e r (Answers.by-plan p) = ap (λ (y : Config). step y en k e) (read-as c o p)
     call-same en k e r (Answers.no-plan n) = absurd (n (b .is-plan))
@@ -157,12 +157,12 @@ module _ (s d : List ℕ) (n : ℕ) (out : List ℕ) (h : Converts s d (Words n)
     its-document : back .document ≡ x
     its-document = one-doc s (back .document) x (back .shaped) w
 
-    pub own-config : (c : Config) × Says x c
+    pub own-config : (c : Config) × Says (knownElements x) c
     own-config =
-        (ran s (take n out) back, subst (λ (y : Node). Says y (ran s (take n out) back)) its-document (ran-says s (take n out) back))
+        (ran s (take n out) back, subst (λ (y : Node). Says (knownElements y) (ran s (take n out) back)) its-document (ran-says s (take n out) back))
 
-    pub same-run-as : (c : Config) → Says x c → SameRun (take n out) c
-    same-run-as c o = same-run s (take n out) back c (subst (λ (y : Node). Says y c) (sym its-document) o)
+    pub same-run-as : (c : Config) → Says (knownElements x) c → SameRun (take n out) c
+    same-run-as c o = same-run s (take n out) back c (subst (λ (y : Node). Says (knownElements y) c) (sym its-document) o)
 
   pub plan-taken : (r : Loaded) → Loads (take n out) r → loadRefusal r ≡ none
   plan-taken r l = ap loadRefusal (back .takes r l)

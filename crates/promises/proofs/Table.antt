@@ -6,7 +6,8 @@ use mathlib.Core.List.{List, zipWith}
 use lib.ListN.{take}
 use Rattle.text.specs.Texts.{bytes, same}
 use Rattle.text.specs.Kinds.{isBlank, isStart, isDigit, isName}
-use Rattle.values.specs.Values.{digit, digitsFrom, digits, numberSpelt}
+use Rattle.values.specs.Numbers.{digit}
+use Rattle.values.specs.NumbersCode.{digitsFrom, digits, numberSpelt}
 use Rattle.code.specs.Code.{wordOf}
 use Rattle.grammar.specs.TokensCode.{lexFrom, lex, find, numberOf, numberedToken, numbers}
 use Rattle.grammar.specs.Tree.{code}

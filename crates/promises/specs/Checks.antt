@@ -9,7 +9,7 @@ use lib.ListN.{replicate}
 use Rattle.text.specs.Texts.{bytes}
 use Rattle.values.specs.declared.Number.{Number}
 use Rattle.values.specs.declared.Number.the-variants.{Value, Nothing}
-use Rattle.values.specs.Values.{numberSpelt}
+use Rattle.values.specs.NumbersCode.{numberSpelt}
 use Rattle.grammar.specs.Outcome.{Becomes}
 use Rattle.records.specs.declared.Cause.the-variants.{Id}
 use Rattle.records.specs.declared.Timeout.the-variants.{Ms}

@@ -8,7 +8,6 @@ use mathlib.Core.Bool.{Bool, cond, _&&_}
 use lib.Dec.{leb, eqb}
 use lib.ListN.{length}
 use Rattle.lists.specs.Lists.{any}
-use Rattle.shape.specs.Shape.{Node}
 use Rattle.code.specs.declared.Value.the-variants.{Is}
 use Rattle.records.specs.declared.Effect.the-variants.{Pass, Stop}
 use Rattle.records.specs.Records.{dlcTop}
@@ -16,7 +15,6 @@ use Rattle.grammar.specs.Tree.{Expression, mean}
 use Rattle.grammar.specs.Outcome.{ReadsAs, stateOf}
 use Rattle.file_rules.specs.Element.{Known, valueOf, has}
 use Rattle.file_rules.specs.Reading.{is, triggerOf}
-use Rattle.file_rules.specs.Document.{knownElements}
 use Rattle.file_rules.specs.Tables.{kept, isIn, channelsOf, actionsOf, expressionOf, namesOf, logsAll}
 use Rattle.event_rules.specs.Rules.{MessageFilter, Statement, Config}
 
@@ -47,14 +45,10 @@ pub data SaysStatements (names : List (List ℕ)) : List Known → List Statemen
       → SaysStatements names ks ss
       → SaysStatements names (k ∷ ks) (s ∷ ss)
 
--- the known elements ks say the configuration c
-pub record SaysConfig (ks : List Known) (c : Config) : Type 0 where
+-- the document of the known elements ks says the configuration c
+pub record Says (ks : List Known) (c : Config) : Type 0 where
   pub channels : c .channels ≡ length (kept (is "PARAMETERS") ks)
   pub logAll : c .logAll ≡ logsAll ks
   pub triggers : c .triggers ≡ map triggerOf (kept (isIn "TRIGGERS") ks)
   pub filters : c .filters ≡ map ownFilter (kept (isIn "FILTERS") ks)
   pub statements : SaysStatements (namesOf ks) (kept (is "STATEMENT") ks) (c .statements)
-
--- the document x says it
-abbrev pub Says : Node → Config → Type 0
-Says x c = SaysConfig (knownElements x) c

@@ -11,16 +11,18 @@ use Rattle.lists.specs.Lists.{Every}
 use Rattle.text.specs.Texts.{bytes, same}
 use Rattle.shape.specs.Shape.{Node, WellShaped}
 use Rattle.values.specs.declared.Number.the-variants.{Value}
-use Rattle.values.specs.Values.{numberSpelt, IsNumber}
+use Rattle.values.specs.Numbers.{IsNumber}
+use Rattle.values.specs.NumbersCode.{numberSpelt}
 use Rattle.schema.specs.Schema.{rulesOf}
-use Rattle.code.specs.Code.{KnownTriggers, Runs, soundCode}
+use Rattle.code.specs.Code.{KnownTriggers, Runs}
+use Rattle.code.specs.HeightsCode.{soundCode}
 use Rattle.loader.specs.declared.Loaded.{Loaded}
 use Rattle.loader.specs.Plan.{PlanOf, Loads, loadRefusal}
-use Rattle.file_rules.specs.Element.{Known, ReadWhole, textOf, channelOf, goodOf}
+use Rattle.file_rules.specs.Element.{Known, ReadsWhole, textOf, channelOf, goodOf}
 use Rattle.file_rules.specs.Document.{knownElements}
 use Rattle.converter.specs.declared.Converted.{Converted}
 use Rattle.converter.specs.declared.Converted.the-variants.{Words, Refused}
-use Rattle.converter.specs.Converter.{Meets, Refuses, Converts, answered}
+use Rattle.converter.specs.Converter.{Meets, Refuses, Converts, convertAnswer}
 use Rattle.converter_c.specs.Calls.{Converting}
 use Rattle.event_rules.specs.declared.Engine.{Engine}
 use Rattle.event_rules.specs.declared.Counts.{Counts}
@@ -44,7 +46,7 @@ pub data Rejects (ws : List ℕ) (en : Engine) (k : Counts) (e : Event) (n : ℕ
 
 -- a file: refused with n at p exactly if the rules refuse it so
 pub record AboutFiles (s d : List ℕ) (r : Converted) (out : List ℕ) : Type 0 where
-  pub exactly : (n p : ℕ) → ((answered r ≡ (n, p)) × (1 ≤ n)) ↔ Refuses s (length d) n p
+  pub exactly : (n p : ℕ) → ((convertAnswer r ≡ (n, p)) × (1 ≤ n)) ↔ Refuses s (length d) n p
   pub stays : (n p : ℕ) → Refuses s (length d) n p → out ≡ d
   pub only : (r′ : Converted) (out′ : List ℕ) → Converts s d r′ out′ → (r ≡ r′) × (out ≡ out′)
 
@@ -69,9 +71,9 @@ pub record Demand1 : Type 0 where
   pub one-plan : (ws : List ℕ) (r r′ : Loaded) → Loads ws r → Loads ws r′ → r ≡ r′
   pub c-plans : (ws : List ℕ) (r : ℕ) → Loading ws r → ((r ≡ 20) ↔ (PlanOf ws → ⊥)) × ((r ≡ 0) ↔ PlanOf ws)
   pub events : (ws : List ℕ) (en : Engine) (k : Counts) (e : Event) (o : Outcome) → Answers ws en k e o → AboutEvents ws en k e o
-  -- the host's record becomes the outcome's counts
+  -- the host's record, which becomes the outcome's counts, stands as before
   pub host-record : (ws : List ℕ) (en : Engine) (k after : Counts) (e : Event) (o : Outcome) → Answers ws en k e o → after ≡ o .counts
-      → (n : ℕ) → answerRefusal (o .answer) ≡ some (n, 0) → after ≡ k
+      → (n : ℕ) → Rejects ws en k e n → after ≡ k
   -- a replay's byte tells a refusal, and all bytes are settled
   pub c-answer : (c : Config) (en : Engine) (k : Counts) (e : Event) (n : ℕ) → 20 ≤ n
       → (answerByte (step c en k e .answer) ≡ n) ↔ (answerRefusal (step c en k e .answer) ≡ some (n, 0))
@@ -92,7 +94,7 @@ pub record Demand2 : Type 0 where
   pub no-mark-skipped : (t : List ℕ) (v : ℕ) → (numberSpelt t ≡ Value v) ↔ IsNumber t v
   -- and every number is that of a whole value, or of a CHANNEL's whole trimmed text
   pub whole-values : (s ws : List ℕ) (m : Meets s ws)
-      → Every (λ k. Every (ReadWhole k) (rulesOf (k .name))
+      → Every (λ k. Every (ReadsWhole k) (rulesOf (k .name))
       × (same (k .name) (bytes "CHANNEL") ≡ true → IsNumber (textOf k) (goodOf (channelOf k)))) (knownElements (m .document))
 
 -- ---- 3. "For any accepted file and any list of events fed to a fresh engine, event by event the plan gives the same answer, logging
@@ -107,9 +109,9 @@ pub record SameRun (ws : List ℕ) (c : Config) : Type 0 where
 
 pub record Demand3 : Type 0 where
   pub has-config : (s d : List ℕ) (n : ℕ) (out : List ℕ) → Converts s d (Words n) out → (x : Node) → WellShaped s x
-      → (c : Config) × Says x c
+      → (c : Config) × Says (knownElements x) c
   pub same-run : (s d : List ℕ) (n : ℕ) (out : List ℕ) → Converts s d (Words n) out → (x : Node) → WellShaped s x
-      → (c : Config) → Says x c → SameRun (take n out) c
+      → (c : Config) → Says (knownElements x) c → SameRun (take n out) c
   pub some-calls : (ws : List ℕ) (es : List Event) → (os : List Outcome) × CallsInTurn ws fresh noCounts es os
   -- "The loader takes every plan the converter writes."
   pub taken : (s d : List ℕ) (n : ℕ) (out : List ℕ) → Converts s d (Words n) out → (r : Loaded) → Loads (take n out) r

@@ -17,7 +17,7 @@ use Rattle.shape.specs.Shape.{Node, node, WellShaped, Shaped, shapeRefusal}
 use Rattle.walk.specs.WalkCode.{rootAt}
 use Rattle.walk.proofs.WalkLaws.{root-law, element-law}
 use Rattle.records.specs.Records.{PlanStatement, triggerWords, filterWords, actionWord, statementWords, timeoutWord, triggerIn, filterIn}
-use Rattle.code.specs.Code.{soundCode}
+use Rattle.code.specs.HeightsCode.{soundCode}
 use Rattle.loader.specs.Plan.{Plan, wordsOf, statementIn, inRange}
 use Rattle.loader.proofs.RecordLaws.{cause-long}
 use Rattle.schema.specs.Schema.{oneOf, under, rulesOf}

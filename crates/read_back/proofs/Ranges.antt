@@ -11,7 +11,8 @@ use Rattle.text.specs.Texts.{bytes, same}
 use Rattle.lists.proofs.Cases.{by-cases}
 use Rattle.text.proofs.Equal.{same-equal}
 use Rattle.values.specs.declared.Sort.the-variants.{Numeric, Timeout, YesNo}
-use Rattle.values.specs.Values.{numberSpelt, ranged, eitherWord, worthOf}
+use Rattle.values.specs.Values.{ranged, eitherWord, worthOf}
+use Rattle.values.specs.NumbersCode.{numberSpelt}
 use Rattle.records.specs.Records.{dlcTop, timeoutIn, idTop, triggerIn, filterIn}
 use Rattle.records.specs.declared.Timeout.the-variants.{Forever, Ms}
 use Rattle.schema.specs.Schema.{Rule, _to_, elements, rulesIn, rulesOf, parentIn, parents}

@@ -31,13 +31,11 @@ pub record PlanStatement : Type 0 where
 
 -- ---- the words
 abbrev pub flag : Bool → ℕ
-flag false = 0
-flag true = 1
+flag b = elim b [ false ↦ 0 | true ↦ 1 ]
 
 -- -1 as 4,294,967,295
 abbrev pub timeoutWord : Timeout → ℕ
-timeoutWord Forever = 4294967295
-timeoutWord (Ms t) = t
+timeoutWord x = elim x [ Forever ↦ 4294967295 | Ms t ↦ t ]
 
 -- each trigger: kind (1 id, 2 length, 3 error, 4 startup), channel, timeout, ext, lower, upper; what a kind lacks is 0
 abbrev pub causeWords : ℕ → Cause → List ℕ
@@ -50,8 +48,7 @@ abbrev pub triggerWords : Trigger → List ℕ
 triggerWords t = causeWords (timeoutWord (t .timeout)) (t .cause)
 
 abbrev pub effectWord : Effect → ℕ
-effectWord Pass = 1
-effectWord Stop = 2
+effectWord x = elim x [ Pass ↦ 1 | Stop ↦ 2 ]
 
 -- "sum of 2^channel", "a repeat adds nothing": of the channels below n that are among cs
 unfoldable pub sumFrom : ℕ → List ℕ → ℕ
@@ -64,9 +61,7 @@ filterWords x = effectWord (x .effect) ∷ x .mask ∷ flag (x .ext) ∷ x .lowe
 
 -- actions: 1 start, 2 stop, 3 stop completely
 abbrev pub actionWord : Action → ℕ
-actionWord StartLog = 1
-actionWord StopLog = 2
-actionWord StopLogCompletely = 3
+actionWord x = elim x [ StartLog ↦ 1 | StopLog ↦ 2 | StopLogCompletely ↦ 3 ]
 
 -- each statement: posttrigger, number of actions, number of code words, actions, code
 abbrev pub statementWords : PlanStatement → List ℕ
@@ -74,12 +69,10 @@ statementWords s = s .post ∷ length (s .actions) ∷ length (s .code) ∷ (map
 
 -- ---- the ranges
 abbrev pub timeoutIn : Timeout → Bool
-timeoutIn Forever = true
-timeoutIn (Ms t) = leb t 1000000000
+timeoutIn x = elim x [ Forever ↦ true | Ms t ↦ leb t 1000000000 ]
 
 abbrev pub idTop : Bool → ℕ
-idTop false = 2047
-idTop true = 536870911
+idTop ext = elim ext [ false ↦ 2047 | true ↦ 536870911 ]
 
 -- channels below n, lower bounds not above upper
 abbrev pub causeIn : ℕ → Cause → Bool

@@ -20,7 +20,8 @@ use Rattle.event_rules.specs.declared.Counts.{Counts}
 use Rattle.event_rules.specs.declared.Outcome.{Outcome}
 use Rattle.event_rules.specs.Rules.{Config, Event, frame, tick}
 use Rattle.event_rules.specs.Calls.{fresh, configOf, refused, step}
-use Rattle.replay.specs.Wire.{frameAt, eventAt, answerBytes, withAnswer}
+use Rattle.replay.specs.Wire.{frameAt, eventAt, answerBytes}
+use Rattle.replay.specs.ReplayCode.{withAnswer}
 use Rattle.replay.proofs.Bytes.{length-answer}
 use Rattle.lists.specs.FillsCode.{Filled}
 use Rattle.lists.proofs.Fills.{filled-none, filled-all, filled-take, filled-more}

@@ -2,14 +2,15 @@
 use Prim.Native.Nat.{ℕ, zero, suc, _+_, _*_, _/_, _%_}
 use mathlib.Core.List.{List, [], _∷_, _++_}
 use mathlib.Core.Bool.{Bool, cond}
-use lib.ListN.{length, getD, drop}
-use lib.Dec.{leb, eqb}
+use lib.ListN.{getD}
+use lib.Dec.{eqb}
 use Rattle.event_rules.specs.declared.Frame.{Frame}
 use Rattle.event_rules.specs.declared.Logging.{Logging}
 use Rattle.event_rules.specs.declared.Logging.the-variants.{Off, On, Ending, EndingCompletely, Halted}
 use Rattle.event_rules.specs.declared.Answer.{Answer}
 use Rattle.event_rules.specs.declared.Outcome.{Outcome}
 use Rattle.event_rules.specs.declared.Answer.the-variants as answers
+use Rattle.event_rules.specs.declared.Answer.the-variants.{Recorded, Idle, Stopped, Ticked, Refused}
 use Rattle.event_rules.specs.Rules.{Event, frame, tick}
 
 -- a number from its bytes, and its bytes
@@ -48,28 +49,15 @@ eventAt s = cond (eqb (getD s 0 0) 0) (tick (frameAt s .time)) (frame (frameAt s
 
 -- 0 answer (0 Recorded, 1 Idle, 2 Stopped, 3 Halted, 4 Ticked, or the refusal number 20 to 25)
 abbrev pub answerByte : Answer → ℕ
-answerByte answers.Recorded = 0
-answerByte answers.Idle = 1
-answerByte answers.Stopped = 2
-answerByte answers.Halted = 3
-answerByte answers.Ticked = 4
-answerByte (answers.Refused n) = n % 256
+answerByte a = elim a [ Recorded ↦ 0 | Idle ↦ 1 | Stopped ↦ 2 | answers.Halted ↦ 3 | Ticked ↦ 4 | Refused n ↦ n % 256 ]
 
 -- 1 logging state (0 Off, 1 On, 2 ending, 3 ending completely, 4 Halted)
 abbrev pub loggingByte : Logging → ℕ
-loggingByte Off = 0
-loggingByte On = 1
-loggingByte (Ending e) = 2
-loggingByte (EndingCompletely e) = 3
-loggingByte Halted = 4
+loggingByte l = elim l [ Off ↦ 0 | On ↦ 1 | Ending e ↦ 2 | EndingCompletely e ↦ 3 | Halted ↦ 4 ]
 
 -- 8-15 the time at which an ending ends, or 0
 abbrev pub endTime : Logging → ℕ
-endTime Off = 0
-endTime On = 0
-endTime (Ending e) = e
-endTime (EndingCompletely e) = e
-endTime Halted = 0
+endTime l = elim l [ Off ↦ 0 | On ↦ 0 | Ending e ↦ e | EndingCompletely e ↦ e | Halted ↦ 0 ]
 
 -- 2-7 zero, 16-31 the four counts
 unfoldable pub answerBytes : Outcome → List ℕ
@@ -78,7 +66,3 @@ answerBytes o =
     ∷ (bytesOf 8 (endTime (o .engine .logging))
     ++ (bytesOf 4 (o .counts .recorded) ++ (bytesOf 4 (o .counts .idle)
     ++ (bytesOf 4 (o .counts .stopped) ++ bytesOf 4 (o .counts .halted)))))
-
--- an answer written at the front of a buffer; one that has no room for it stays as it was
-abbrev pub withAnswer : Outcome → List ℕ → List ℕ
-withAnswer o out = cond (leb 32 (length out)) (answerBytes o ++ drop 32 out) out

@@ -12,7 +12,8 @@ use Rattle.shape.specs.declared.Step.the-variants.{At}
 use Rattle.shape.specs.declared.Tag.{Tag}
 use Rattle.shape.specs.declared.Mark.{Mark}
 use Rattle.shape.specs.declared.Mark.the-variants.{Again, Close, Child, Stop}
-use Rattle.text.specs.Kinds.{isStart, isName, isText, spanAt}
+use Rattle.text.specs.Kinds.{isStart, isName, isText}
+use Rattle.text.specs.SpansCode.{spanAt}
 use Rattle.lists.proofs.Cases.{by-cases}
 use Rattle.text.proofs.Spans.{span-more, span-here, span-end, downward, low-of, high-of, stop-of}
 use Rattle.shape.specs.MachineCode.{State, inside, comment, bang, tag, close, name, valued, live, bad, at, goes}

@@ -8,7 +8,8 @@ use lib.ListN.{length, getD, drop}
 use lib.Dec.{eqb}
 use borrow.Author.Tests.{ne-eqb, eqb-true}
 use Rattle.shape.specs.declared.Step.{Step}
-use Rattle.text.specs.Kinds.{isBlank, isStart, isDecl, spanAt}
+use Rattle.text.specs.Kinds.{isBlank, isStart, isDecl}
+use Rattle.text.specs.SpansCode.{spanAt}
 use Rattle.lists.proofs.Cases.{by-cases, le-or-lt}
 use Rattle.text.proofs.Spans.{low-of, stop-of}
 use Rattle.shape.specs.MachineCode.{start, startLt, decl, mark, markX, markXm, declared, closing as closingDecl, before, after, idle, lt, comment, bang, tag, name, bad, at}

@@ -4,7 +4,7 @@ use mathlib.Core.Path.{_≡_, refl, sym, ap, _∙_}
 use mathlib.Core.List.{List, _∷_}
 use mathlib.Core.Bool.{Bool, true}
 use lib.ListN.{length, getD, drop, drop-of-length-le}
-use Rattle.text.specs.Kinds.{spanAt}
+use Rattle.text.specs.SpansCode.{spanAt}
 use Rattle.lists.proofs.Cases.{by-cases, le-or-lt}
 use Rattle.text.proofs.Spans.{drop-one, span-more, span-here, span-end, downward}
 use Rattle.shape.specs.MachineCode.{State, live, dead, bad, stepByte, end, runFrom, at}

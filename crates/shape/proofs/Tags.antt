@@ -10,7 +10,8 @@ use Rattle.shape.specs.declared.Tag.{Tag}
 use Rattle.shape.specs.declared.Tag.the-variants.{Open, Empty, Fault}
 use Rattle.shape.specs.declared.Step.{Step}
 use Rattle.shape.specs.declared.Step.the-variants.{At, Bad}
-use Rattle.text.specs.Kinds.{isBlank, isStart, isName, isValue, spanAt}
+use Rattle.text.specs.Kinds.{isBlank, isStart, isName, isValue}
+use Rattle.text.specs.SpansCode.{spanAt}
 use Rattle.lists.proofs.Cases.{by-cases, le-or-lt}
 use Rattle.text.proofs.Spans.{drop-one, span-more, span-here, span-end, low-of, stop-of}
 use Rattle.shape.specs.MachineCode.{idle, inside, slash, closeGap, gap, attr, attrGap, equal, value, valued, bad, at}

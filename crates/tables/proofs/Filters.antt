@@ -12,7 +12,8 @@ use Rattle.text.specs.Texts.{bytes, same}
 use Rattle.lists.proofs.Cases.{by-cases}
 use Rattle.text.proofs.Equal.{same-equal}
 use Rattle.records.specs.declared.Filter.{Filter}
-use Rattle.values.specs.Values.{numberSpelt, worthOf}
+use Rattle.values.specs.Values.{worthOf}
+use Rattle.values.specs.NumbersCode.{numberSpelt}
 use Rattle.shape.specs.Shape.{Node}
 use Rattle.schema.specs.declared.Kind.{Kind}
 use Rattle.schema.specs.declared.Kind.the-variants.{MessagePass, MessageStop}

@@ -14,7 +14,8 @@ use Rattle.text.specs.Texts.{bytes, same}
 use Rattle.values.specs.declared.Number.{Number}
 use Rattle.values.specs.declared.Number.the-variants.{Value, Nothing}
 use Rattle.values.specs.declared.Sort.the-variants.{Timeout}
-use Rattle.values.specs.Values.{numberSpelt, digits, ranged, worthOf}
+use Rattle.values.specs.Values.{ranged, worthOf}
+use Rattle.values.specs.NumbersCode.{numberSpelt, digits}
 use Rattle.records.specs.declared.Timeout.the-variants.{Forever, Ms}
 use Rattle.records.specs.RecordsCode.{timeoutAt}
 use Rattle.shape.specs.Shape.{node, Attribute}

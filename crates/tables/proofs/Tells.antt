@@ -14,7 +14,8 @@ use Rattle.lists.proofs.Cases.{by-cases, le-or-lt}
 use Rattle.text.proofs.Equal.{same-equal}
 use Rattle.values.specs.declared.Number.{Number}
 use Rattle.values.specs.declared.Number.the-variants.{Value, Nothing}
-use Rattle.values.specs.Values.{numberSpelt, ranged, worthOf}
+use Rattle.values.specs.Values.{ranged, worthOf}
+use Rattle.values.specs.NumbersCode.{numberSpelt}
 use Rattle.shape.specs.Shape.{Attribute}
 use Rattle.walk.specs.declared.Part.{Part}
 use Rattle.schema.specs.declared.Kind.{Kind}

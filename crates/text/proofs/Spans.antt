@@ -8,7 +8,7 @@ use mathlib.Core.List.{List, _∷_}
 use mathlib.Core.Bool.{Bool, true, false}
 use lib.ListN.{length, getD, drop, drop-of-length-le}
 use lib.Seq.{drop-cons}
-use Rattle.text.specs.Kinds.{spanAt}
+use Rattle.text.specs.SpansCode.{spanAt}
 use Rattle.lists.proofs.Cases.{by-cases, le-or-lt}
 
 pub drop-one : (s : List ℕ) (i : ℕ) → i < length s → drop i s ≡ getD s i 0 ∷ drop (i + 1) s

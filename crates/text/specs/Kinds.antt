@@ -1,9 +1,8 @@
--- Kinds of bytes that paper 01 names in "Shape of the file" and "Expressions", and runs of one kind.
+-- Kinds of bytes that paper 01 names in "Shape of the file" and "Expressions".
 use Prim.Native.String.{String}
 use Prim.Native.Char.{code}
-use Prim.Native.Nat.{ℕ, _+_}
-use mathlib.Core.List.{List, [], _∷_}
-use mathlib.Core.Bool.{Bool, true, false, not, _&&_, _||_}
+use Prim.Native.Nat.{ℕ}
+use mathlib.Core.Bool.{Bool, false, not, _&&_, _||_}
 use lib.Dec.{leb, eqb}
 
 -- is the byte one of the quoted ones
@@ -48,8 +47,3 @@ isAny b = (leb 0x20 b && leb b 0xFF) || isBlank b
 -- "Text: no `<` or `&`."
 unfoldable pub isText : ℕ → Bool
 isText b = not (among "<&" b) && isAny b
-
--- the offset behind the bytes of kind p with which s starts, i being the offset of s
-unfoldable pub spanAt : (ℕ → Bool) → List ℕ → ℕ → ℕ
-spanAt p [] i = i
-spanAt p (b ∷ s) i = elim (p b) [ true ↦ spanAt p s (i + 1) | false ↦ i ]

@@ -1,3 +1,4 @@
--- Both are what a reader must believe.
+-- `Kinds` and `Texts` are what a reader must believe; SpansCode serves contracts.
 pub mod Kinds
 pub mod Texts
+pub mod SpansCode

@@ -3,7 +3,8 @@
 // Promises: every answer is the definition's, for every text and every offset.
 ghost use mathlib.Core.Path.{_≡_};
 ghost use lib.ListN.{drop};
-ghost use Rattle.text.specs.Kinds.{isBlank, isName, spanAt, isDecl, isValue, isText};
+ghost use Rattle.text.specs.Kinds.{isBlank, isName, isDecl, isValue, isText};
+ghost use Rattle.text.specs.SpansCode.{spanAt};
 use crate::letters;
 
 // The offset behind the blanks at i.

@@ -3,7 +3,9 @@ use mathlib.Core.Path.{_≡_, refl}
 use mathlib.Core.Bool.{true, false}
 use Rattle.text.specs.Texts.{bytes, same}
 use Rattle.text.specs.Kinds.{isStart, isDigit, isName}
-use Rattle.values.specs.Values.{digit, digitsFrom, digits, numberSpelt, triggerName, worthOf}
+use Rattle.values.specs.Values.{triggerName, worthOf}
+use Rattle.values.specs.Numbers.{digit}
+use Rattle.values.specs.NumbersCode.{digitsFrom, digits, numberSpelt}
 use Rattle.values.specs.declared.Number.the-variants.{Value, Nothing}
 use Rattle.values.specs.declared.Sort.the-variants.{Timeout}
 use Rattle.values.specs.declared.Worth.the-variants.{Good, Bad}

@@ -14,7 +14,8 @@ use Rattle.text.proofs.Equal.{same-equal}
 use Rattle.lists.specs.Lists.{all}
 use Rattle.lists.proofs.Cases.{by-cases}
 use Rattle.lists.proofs.Parts.{and-left, and-right}
-use Rattle.values.specs.Values.{digit, digitsFrom, digits, numberSpelt, positional, SpeltBy, IsNumber}
+use Rattle.values.specs.Numbers.{digit, positional, SpeltBy, IsNumber}
+use Rattle.values.specs.NumbersCode.{digitsFrom, digits, numberSpelt}
 use Rattle.values.specs.declared.Number.the-variants.{Value, Nothing}
 use Rattle.values.proofs.Numbers.{inside}
 

@@ -14,7 +14,8 @@ use lib.Pow.{pow-add}
 use Rattle.text.specs.Texts.{bytes, same}
 use Rattle.text.proofs.Spans.{drop-one}
 use Rattle.text.proofs.Equal.{other-length}
-use Rattle.values.specs.Values.{digit, digitsFrom, digits, numberSpelt}
+use Rattle.values.specs.Numbers.{digit}
+use Rattle.values.specs.NumbersCode.{digitsFrom, digits, numberSpelt}
 use Rattle.values.specs.declared.Number.{Number}
 use Rattle.values.specs.declared.Number.the-variants.{Value, Nothing}
 

@@ -1,2 +1,4 @@
--- What a reader must believe.
+-- `Numbers` and `Values` are what a reader must believe; NumbersCode reads numbers as the code does.
+pub mod Numbers
+pub mod NumbersCode
 pub mod Values

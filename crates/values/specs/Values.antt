@@ -1,13 +1,13 @@
--- Paper 01, "Values": numbers, timeouts, words and trigger names, and what a value is worth where its attribute asks for one of them.
-use Prim.Native.Nat.{ℕ, _+_, _*_, _-_, _^_, _≤_}
-use mathlib.Core.Path.{_≡_}
-use mathlib.Core.Logic.{_⊎_}
-use mathlib.Core.List.{List, [], _∷_, _++_}
-use mathlib.Core.Bool.{Bool, true, false, not, _&&_, cond}
-use lib.Dec.{leb, ltb}
-use lib.ListN.{length, drop, take}
+-- Paper 01, "Values": timeouts, words and trigger names, and what a value is worth where its attribute asks for one of them. `numberSpelt`
+-- gives the number that a text is (Numbers.antt), and Nothing where it is none.
+use Prim.Native.Nat.{ℕ}
+use mathlib.Core.List.{List}
+use mathlib.Core.Bool.{Bool, not, _&&_, cond}
+use lib.Dec.{leb}
+use lib.ListN.{length}
 use Rattle.text.specs.Texts.{bytes, same}
-use Rattle.text.specs.Kinds.{between, isName}
+use Rattle.text.specs.Kinds.{isName}
+use Rattle.values.specs.NumbersCode.{numberSpelt}
 use Rattle.values.specs.declared.Number.{Number}
 use Rattle.values.specs.declared.Number.the-variants.{Value, Nothing}
 use Rattle.values.specs.declared.Sort.{Sort}
@@ -15,36 +15,6 @@ use Rattle.values.specs.declared.Sort.the-variants.{Numeric, Timeout, Ye
 use Rattle.values.specs.declared.Worth.{Worth}
 use Rattle.values.specs.declared.Worth.the-variants.{Good, Bad, NotCarried}
 use Rattle.lists.specs.Lists.{all}
-
--- the digit that a byte stands for, "of either case"; 16 where it stands for none
-unfoldable pub digit : ℕ → ℕ
-digit b = cond (between "09" b) (b - 48) (cond (between "AF" b) (b - 55) (cond (between "af" b) (b - 87) 16))
-
--- the number that the digits s end, after digits that come to v; "Nothing else": every byte is a digit of the base
-unfoldable pub digitsFrom : ℕ → ℕ → List ℕ → Number
-digitsFrom base v [] = Value v
-digitsFrom base v (b ∷ s) = elim (ltb (digit b) base) [ true ↦ digitsFrom base (v * base + digit b) s | false ↦ Nothing ]
-
--- 1 to n digits
-unfoldable pub digits : ℕ → ℕ → List ℕ → Number
-digits base n s = cond (leb 1 (length s) && leb (length s) n) (digitsFrom base 0 s) Nothing
-
--- "Number: 1 to 10 decimal digits, or `0x` and 1 to 8 hex digits of either case. Nothing else, no sign, no blank."
-unfoldable pub numberSpelt : List ℕ → Number
-numberSpelt s = cond (same (take 2 s) (bytes "0x")) (digits 16 8 (drop 2 s)) (digits 10 10 s)
-
--- what digits of a base come to: the last are ones, those before it worth the base times as much
-unfoldable pub positional : ℕ → List ℕ → ℕ
-positional base [] = 0
-positional base (b ∷ s) = digit b * base ^ length s + positional base s
-
--- 1 to n digits of the base, all of them, that spell v
-abbrev pub SpeltBy : ℕ → ℕ → List ℕ → ℕ → Type 0
-SpeltBy base n s v = (1 ≤ length s) × (length s ≤ n) × (all (λ b. ltb (digit b) base) s ≡ true) × (v ≡ positional base s)
-
--- "1 to 10 decimal digits, or `0x` and 1 to 8 hex digits of either case. Nothing else"
-abbrev pub IsNumber : List ℕ → ℕ → Type 0
-IsNumber s v = SpeltBy 10 10 s v ⊎ ((h : List ℕ) × (s ≡ bytes "0x" ++ h) × SpeltBy 16 8 h v)
 
 -- one of two words: 0 or 1
 unfoldable pub eitherWord : List ℕ → List ℕ → List ℕ → Number

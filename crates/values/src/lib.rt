@@ -6,7 +6,8 @@
 ghost use mathlib.Core.Path.{_≡_};
 ghost use Prim.Native.Nat.{_≤_};
 ghost use lib.ListN.{length};
-ghost use Rattle.values.specs.Values.{digit, digitsFrom, digits, numberSpelt};
+ghost use Rattle.values.specs.Numbers.{digit};
+ghost use Rattle.values.specs.NumbersCode.{digitsFrom, digits, numberSpelt};
 
 pub mod sorts;
 

@@ -7,7 +7,8 @@ use mathlib.Core.Bool.{Bool, true, false, true≢false}
 use borrow.Author.Tests.{eqb-false}
 use lib.ListN.{length, take, drop, length-drop, length-append}
 use lib.Seq.{slice, drop-drop, drop-append-seam, take-append-seam}
-use Rattle.text.specs.Kinds.{among, isBlank, isStart, isName, spanAt}
+use Rattle.text.specs.Kinds.{among, isBlank, isStart, isName}
+use Rattle.text.specs.SpansCode.{spanAt}
 use Rattle.shape.proofs.Bytes.{blank-not-name, start-is-name, start-not-blank}
 use Rattle.shape.specs.Shape.{Attribute, Run, Name, Attributes, Spelled, Remark}
 use Rattle.walk.specs.WalkCode.{past, ahead, closesRemark, remarkEnd}

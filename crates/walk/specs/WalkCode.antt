@@ -7,7 +7,8 @@ use mathlib.Core.Bool.{Bool, true, false, cond, _&&_}
 use lib.Dec.{leb, ltb}
 use lib.ListN.{length, getD, take, drop}
 use lib.Seq.{slice}
-use Rattle.text.specs.Kinds.{among, isBlank, isStart, isName, isDecl, isValue, isText, spanAt}
+use Rattle.text.specs.Kinds.{among, isBlank, isStart, isName, isDecl, isValue, isText}
+use Rattle.text.specs.SpansCode.{spanAt}
 use Rattle.shape.specs.Text.{trimmed}
 use Rattle.walk.specs.declared.Part.{Part}
 use Rattle.walk.specs.declared.TagPart.{TagPart}

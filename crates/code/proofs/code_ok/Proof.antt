@@ -6,7 +6,8 @@ use Prim.Native.Nat.{_-_, _≤_}
 use native.Mathlib.Omega.{arith}
 use mathlib.Core.Path.{_≡_, refl, sym, ap, _∙_}
 use lib.ListN.{length, drop}
-use Rattle.code.specs.Code.{limit, height, isOne, soundCode}
+use Rattle.code.specs.Code.{limit}
+use Rattle.code.specs.HeightsCode.{height, isOne, soundCode}
 use Rattle.code.proofs.Levels.{height-on, height-none, height-end}
 use borrow.Author.Needs.{needs}
 

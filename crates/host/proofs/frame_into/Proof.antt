@@ -10,33 +10,17 @@ use prog.Wp.{Heap}
 use ghost.Atoms.{Atoms}
 use contract.Monad.{Fun, factI}
 use contract.Running.{givenOf, tables, tablesOf}
-use denote.Struct.Laws as LL
 use denote.Triple.Spec.{tripleOf}
 use denote.Triple.Table.{entered, cited}
-use Rattle.event_rules.specs.Rules.{frame}
-use Rattle.event_rules.proofs.Frame as Fr
-use Rattle.event_rules.proofs.Frame.Laws as Fr′
 use Rattle.engine.proofs.take_frame.Symbol as take-def
 use Rattle.engine.proofs.take_frame.Symbol.{name as #engine·take-frame}
 use Rattle.engine.proofs.take_frame.Met as take-thm
-use Rattle.host.proofs.Into.{ByValue, function, Take, Ensures, Follows, meets}
+use Rattle.host.proofs.Into.{function, Take, Ensures, Follows, meets}
+use Rattle.host.proofs.Events.{Frames}
 use Rattle.host.proofs.frame_into.Key.{name as #host·frame-into}
 use Rattle.host.proofs.frame_into as frame-into
 use Rattle.host.proofs.frame_into.Statement as stated
 use Rattle.host.proofs.frame_into.Code as code
-
-abbrev Frames : ByValue
-Frames = record {
-  row = Fr.the-row;
-  mir = Fr′.mir;
-  event = frame;
-  val = LL.val Fr.the-type Fr′.the-laws;
-  tells = LL.tells Fr.the-type Fr′.the-laws;
-  typed = λ 𝓤 H A W x is. LL.lawful Fr.the-type Fr′.the-laws 𝓤 H A W .typed x _ is .0;
-  makes = λ 𝓤 H A W. LL.makes Fr.the-type Fr′.the-plain 𝓤 H A;
-  last = λ x. tt;
-  silent = λ x f. refl;
-}
 
 -- the code is the shared one, and n the local that it stores
 abbrev stored : (n : ℕ) × (code.function ≡ function Frames #engine·take-frame n)

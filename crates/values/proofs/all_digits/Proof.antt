@@ -6,7 +6,7 @@ use Prim.Native.Nat.{_≤_, _<_, _-_, _^_}
 use mathlib.Core.Path.{_≡_, refl, sym, _∙_}
 use native.Mathlib.Omega.{arith}
 use lib.ListN.{length, drop}
-use Rattle.values.specs.Values.{digitsFrom}
+use Rattle.values.specs.NumbersCode.{digitsFrom}
 use Rattle.values.proofs.Numbers.{digits-more, digits-bad, digits-end, one-more, step-fits}
 use borrow.Author.Needs.{needs}
 

@@ -5,7 +5,7 @@ use Rattle.values.proofs.some_digits.Statement.{statement}
 use Rattle.values.proofs.some_digits.Tie as tie
 use borrow.Author.Tests.{le-leb, lt-leb}
 use mathlib.Core.Path.{_∙_}
-use Rattle.values.specs.Values.{digits}
+use Rattle.values.specs.NumbersCode.{digits}
 
 returns : tie.Need-returns
 unfolding digits

@@ -3,7 +3,8 @@
 use Rattle.text.proofs.runs.decl_end.Statement.{statement}
 use Rattle.text.proofs.runs.decl_end.Tie as tie
 use Rattle.text.proofs.Spans.{span-more, span-here, span-end}
-use Rattle.text.specs.Kinds.{spanAt, isDecl}
+use Rattle.text.specs.Kinds.{isDecl}
+use Rattle.text.specs.SpansCode.{spanAt}
 use lib.ListN.{length, drop}
 use Prim.Native.Nat.{_-_}
 use mathlib.Core.Path.{_≡_, refl, sym, _∙_}
