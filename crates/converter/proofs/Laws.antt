@@ -11,7 +11,6 @@ use Rattle.shape.specs.declared.Shape.the-variants.{Whole, TooLong, Broken}
 use Rattle.shape.specs.Shape.{Node, WellShaped, shapeRefusal}
 use Rattle.grammar.proofs.Names.{few-names}
 use Rattle.grammar.proofs.Ruled.{becomes}
-use Rattle.loader.specs.Plan.{wordsOf}
 use Rattle.records.specs.Records.{PlanStatement}
 use Rattle.file_rules.specs.Element.{Known, Fault}
 use Rattle.document.specs.declared.Index.{Index}
@@ -30,7 +29,6 @@ use Rattle.file_rules.specs.Tables.{kept, expressionOf, namesOf, tableFaults}
 use Rattle.lists.specs.Lists.{gathered}
 use Rattle.lists.proofs.Cases.{same-pair}
 use Rattle.tables.specs.TablesCode.{tableFault, tabled, Tabled}
-use Rattle.file_rules.specs.RefusalCode.{refusedAt}
 use Rattle.tables.proofs.Laws.{reads-well}
 use Rattle.tables.proofs.Wanted.{firstOf, Reads}
 use Rattle.converter.specs.declared.statements.Composed.{Composed}

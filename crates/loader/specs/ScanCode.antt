@@ -1,9 +1,9 @@
 -- The scanning form that the loader's code follows: records read off the words that start with them. Nobody has to believe it:
 -- proofs/Exact ties it to Plan.antt.
 use Prim.Native.Nat.{ℕ, zero, suc, _+_, _^_}
-use mathlib.Core.List.{List, [], _∷_, map}
+use mathlib.Core.List.{List, [], _∷_}
 use mathlib.Core.Bool.{Bool, true, false, _&&_, cond}
-use lib.ListN.{length, getD, take, drop}
+use lib.ListN.{length, getD, drop}
 use lib.Dec.{leb, eqb}
 use Rattle.code.specs.HeightsCode.{soundCode}
 use Rattle.loader.specs.Plan.{Plan}

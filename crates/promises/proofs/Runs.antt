@@ -3,7 +3,7 @@ use Prim.Native.Nat.{ℕ}
 use native.Mathlib.Omega.{arith}
 use mathlib.Core.Path.{_≡_, refl, sym, ap, fun-ext, _∙_, subst}
 use mathlib.Core.List.{List, [], _∷_, map}
-use mathlib.Core.Bool.{Bool, true, false, _&&_}
+use mathlib.Core.Bool.{Bool, true}
 use mathlib.Core.Option.{none}
 use lib.ListN.{length, take}
 use borrow.Author.Tests.{le-leb}
@@ -15,7 +15,7 @@ use Rattle.shape.proofs.OneDoc.{one-doc}
 use Rattle.code.specs.declared.Value.the-variants.{Is}
 use Rattle.code.specs.Code.{Runs}
 use Rattle.code.proofs.Sound.{sound-code}
-use Rattle.records.specs.Records.{PlanStatement, dlcTop, sumFrom}
+use Rattle.records.specs.Records.{PlanStatement, sumFrom}
 use Rattle.loader.specs.declared.Loaded.{Loaded}
 use Rattle.loader.specs.Plan.{PlanOf, Loads, loadRefusal, statementIn}
 use Rattle.grammar.specs.Tree.{Expression, mean}

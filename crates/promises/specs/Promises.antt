@@ -18,7 +18,7 @@ use Rattle.code.specs.Code.{KnownTriggers, Runs}
 use Rattle.code.specs.HeightsCode.{soundCode}
 use Rattle.loader.specs.declared.Loaded.{Loaded}
 use Rattle.loader.specs.Plan.{PlanOf, Loads, loadRefusal}
-use Rattle.file_rules.specs.Element.{Known, ReadsWhole, textOf, channelOf, goodOf}
+use Rattle.file_rules.specs.Element.{ReadsWhole, textOf, channelOf, goodOf}
 use Rattle.file_rules.specs.Document.{knownElements}
 use Rattle.converter.specs.declared.Converted.{Converted}
 use Rattle.converter.specs.declared.Converted.the-variants.{Words, Refused}

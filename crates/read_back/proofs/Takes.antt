@@ -16,7 +16,7 @@ use Rattle.records.specs.declared.Filter.{Filter}
 use Rattle.records.specs.Records.{PlanStatement, triggerIn, filterIn, sumFrom}
 use Rattle.loader.specs.declared.Loaded.{Loaded}
 use Rattle.loader.specs.declared.Loaded.the-variants.{Taken}
-use Rattle.loader.specs.Plan.{Plan, statementIn, inRange, PlanOf, Loads, layoutOf}
+use Rattle.loader.specs.Plan.{statementIn, inRange, PlanOf, Loads, layoutOf}
 use Rattle.loader.proofs.Exact.{loads-once, one-plan}
 use Rattle.grammar.specs.Outcome.{Becomes}
 use Rattle.grammar.proofs.Loads.{GoodCode, good}

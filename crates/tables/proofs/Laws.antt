@@ -1,6 +1,6 @@
 -- What is told of a file of good shape whose elements have no fault: its document's tables.
 use Prim.Native.Nat.{ℕ, _≤_}
-use mathlib.Core.Path.{_≡_, ap, sym, _∙_}
+use mathlib.Core.Path.{_≡_, ap, _∙_}
 use mathlib.Core.List.{List, [], map}
 use lib.ListN.{length, take}
 use Rattle.shape.specs.Shape.{Node, WellShaped}

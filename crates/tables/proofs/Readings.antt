@@ -3,12 +3,11 @@ use Prim.Native.Nat.{ℕ, suc, _≤_, _<_}
 use Prim.Native.String.{String}
 use native.Mathlib.Omega.{arith}
 use mathlib.Core.Path.{_≡_, refl}
-use mathlib.Core.List.{List, [], _∷_}
+use mathlib.Core.List.{List, []}
 use mathlib.Core.Bool.{true, false, cond, _&&_}
-use lib.Dec.{leb, ltb, eqb}
+use lib.Dec.{leb, ltb}
 use lib.ListN.{getD}
 use borrow.Author.Tests.{leb-true, ne-eqb}
-use Rattle.lists.specs.Lists.{any}
 use Rattle.lists.proofs.Cases.{by-cases}
 use Rattle.text.specs.Texts.{bytes, same}
 use Rattle.values.specs.declared.Number.{Number}
@@ -18,15 +17,15 @@ use Rattle.values.specs.Values.{ranged, worthOf}
 use Rattle.values.specs.NumbersCode.{numberSpelt, digits}
 use Rattle.records.specs.declared.Timeout.the-variants.{Forever, Ms}
 use Rattle.records.specs.RecordsCode.{timeoutAt}
-use Rattle.shape.specs.Shape.{node, Attribute}
+use Rattle.shape.specs.Shape.{node}
 use Rattle.walk.specs.StandsCode.{ElementAt}
 use Rattle.schema.specs.declared.Kind.{Kind}
 use Rattle.schema.specs.declared.Kind.the-variants.{MsgId, MsgDlc, ErrorFrame, Startup, MessagePass, MessageStop}
 use Rattle.schema.specs.Schema.{elements, rulesIn}
 use Rattle.schema.specs.SchemaCode.{kindName, askedFrom, askedOf}
-use Rattle.file_rules.specs.Element.{Known, worthBy, goodOf, givenValue, given, misfit, valueOf, has}
+use Rattle.file_rules.specs.Element.{Known, worthBy, goodOf, givenValue, misfit, valueOf, has}
 use Rattle.element.specs.ElementCode.{nothingGathered, gatheredList, gatheredAt}
-use Rattle.lists.proofs.Parts.{and-right, neither}
+use Rattle.lists.proofs.Parts.{and-right}
 use Rattle.element.proofs.Gathers.{spelled-none}
 use Rattle.element.proofs.Laws.{gather-law, value-law, has-law}
 use Rattle.file_rules.specs.Reading.{triggerOf, filterOf}

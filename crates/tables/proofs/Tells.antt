@@ -5,16 +5,14 @@ use native.Mathlib.Omega.{arith}
 use mathlib.Core.Path.{_≡_, refl, sym, ap, _∙_}
 use mathlib.Core.List.{List, [], _∷_, _++_, map, map-append, append-assoc, append-nil}
 use mathlib.Core.Bool.{Bool, true, false, not, cond, _&&_, _||_, or-true, or-false, true≢false}
-use lib.Dec.{leb, ltb, eqb}
-use lib.ListN.{length, take, set, getD, replicate, length-map, length-append, length-set, length-replicate, getD-replicate, List·getD-eq-default}
+use lib.Dec.{ltb, eqb}
+use lib.ListN.{length, take, set, getD, replicate, length-map, length-append, length-set, getD-replicate, List·getD-eq-default}
 use lib.Seq.{slice, take-all, getD-set-same, getD-set-other}
-use borrow.Author.Tests.{lt-ltb, leb-true, eqb-true, eqb-false, not-false}
+use borrow.Author.Tests.{lt-ltb, eqb-true, eqb-false, not-false}
 use Rattle.text.specs.Texts.{bytes, same}
 use Rattle.lists.proofs.Cases.{by-cases, le-or-lt}
 use Rattle.text.proofs.Equal.{same-equal}
-use Rattle.values.specs.declared.Number.{Number}
-use Rattle.values.specs.declared.Number.the-variants.{Value, Nothing}
-use Rattle.values.specs.Values.{ranged, worthOf}
+use Rattle.values.specs.Values.{worthOf}
 use Rattle.values.specs.NumbersCode.{numberSpelt}
 use Rattle.shape.specs.Shape.{Attribute}
 use Rattle.walk.specs.declared.Part.{Part}

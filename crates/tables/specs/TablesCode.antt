@@ -5,9 +5,8 @@ use mathlib.Core.List.{List, [], _∷_, _++_}
 use mathlib.Core.Bool.{Bool, false, not, cond, _&&_}
 use lib.Dec.{leb, eqb}
 use lib.ListN.{take}
-use Rattle.text.specs.Texts.{bytes, same}
+use Rattle.text.specs.Texts.{same}
 use Rattle.grammar.specs.TokensCode.{namesIn}
-use Rattle.schema.specs.declared.Kind.{Kind}
 use Rattle.file_rules.specs.Element.{goodOf}
 use Rattle.element.specs.ElementCode.{isKind, numbered}
 use Rattle.element.specs.ReadingCode as reading
