@@ -98,8 +98,9 @@ refuses-once s room n p m q (Refuses.by-shape a h e) (Refuses.by-fault x l ss sh
 refuses-once s room n p m q (Refuses.by-fault x l ss short w j) (Refuses.by-shape a h e) =
     absurd (shapeless-shaped s a m q x short w h e)
 refuses-once s room n p m q (Refuses.by-fault x l ss short w j) (Refuses.by-fault y k ts long v i) =
-    let o = head-eq-of-cons-eq (judged-same s x y w v (record { number = n; place = p } ∷ l) (record { number = m; place = q } ∷ k) ss ts j i
-    .0) in
+    let a : Fault = record { number = n; place = p } in
+    let b : Fault = record { number = m; place = q } in
+    let o = head-eq-of-cons-eq (judged-same s x y w v (a ∷ l) (b ∷ k) ss ts j i .0) in
     (ap (λ (z : Fault). z .number) o, ap (λ (z : Fault). z .place) o)
 refuses-once s room n p m q (Refuses.by-shape a h t) (Refuses.by-room ws k r e g) =
     turned (by-room-once s ws room m q n p k r e g (Refuses.by-shape a h t))

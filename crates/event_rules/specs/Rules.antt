@@ -126,10 +126,11 @@ evaluated (s ∷ ss) now = andThen (s .holds now) (evaluated ss now)
 -- Start: Off or ending becomes On. Stop: On becomes ending at u + 1000 x posttrigger. Complete stop: Off becomes Halted; On becomes ending
 -- completely at that time; ending keeps its e and becomes ending completely. Every other pair changes nothing.
 abbrev pub act : ℕ → Action → Logging → Logging
-act end StartLog l = elim l [ Off ↦ On | On ↦ On | Ending e ↦ On | EndingCompletely e ↦ EndingCompletely e | Halted ↦ Halted ]
-act end StopLog l = elim l [ Off ↦ Off | On ↦ Ending end | Ending e ↦ Ending e | EndingCompletely e ↦ EndingCompletely e | Halted ↦ Halted ]
-act end StopLogCompletely l =
-    elim l [ Off ↦ Halted | On ↦ EndingCompletely end | Ending e ↦ EndingCompletely e | EndingCompletely e ↦ EndingCompletely e | Halted ↦ Halted ]
+act end a Off = elim a [ StartLog ↦ On | StopLog ↦ Off | StopLogCompletely ↦ Halted ]
+act end a On = elim a [ StartLog ↦ On | StopLog ↦ Ending end | StopLogCompletely ↦ EndingCompletely end ]
+act end a (Ending e) = elim a [ StartLog ↦ On | StopLog ↦ Ending e | StopLogCompletely ↦ EndingCompletely e ]
+act end a (EndingCompletely e) = EndingCompletely e
+act end a Halted = Halted
 
 unfoldable pub actAll : ℕ → List Action → Logging → Logging
 actAll end [] l = l

@@ -1,5 +1,5 @@
--- Paper 01, "Values", "The plan" and "Refusal numbers": what the known elements of a document say together, and its faults 9 and 10. Both are
--- asked only where there is no fault up to 8: each value is good then, and each STATEMENT has one EXPRESSION.
+-- Paper 01, "Values", "The plan" and "Refusal numbers": what the known elements of a document say together, and its faults 9 and 10. Both
+-- are asked only where there is no fault up to 8: each value is good then, and each STATEMENT has one EXPRESSION.
 use Prim.Native.Nat.{ℕ, zero, suc}
 use Prim.Native.String.{String}
 use mathlib.Core.List.{List, [], _∷_, _++_, map}

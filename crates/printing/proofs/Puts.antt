@@ -30,7 +30,8 @@ cut-behind t d =
     le-or-lt (length t) (length d) (λ h. let e : min (length t) (length d) ≡ length t = omega arith in ap (λ (n : ℕ). drop n d) e)
     (λ h.
     let e : min (length t) (length d) ≡ length d = omega arith in
-    ap (λ (n : ℕ). drop n d) e ∙ drop-of-length-le d {i = length d} (omega arith) ∙ sym (drop-of-length-le d {i = length t} (omega (arith, h))))
+    ap (λ (n : ℕ). drop n d) e ∙ drop-of-length-le d {i = length d} (omega arith)
+    ∙ sym (drop-of-length-le d {i = length t} (omega (arith, h))))
 
 put-text : {t d e : List ℕ} {r : ℕ} → Put t d r e → e ≡ printedOver t d
 unfolding printedOver

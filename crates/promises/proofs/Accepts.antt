@@ -27,15 +27,17 @@ module _ (s d : List ℕ) (r : Converted) (out ws : List ℕ) (h : Converts s d 
   accepted-so m l = one-converted s d r (Words (length ws)) out (ws ++ drop (length ws) d) h (Converts.converts ws m l)
 
   pub short-so : Meets s ws → length d < length ws → r ≡ Refused 13 (length ws)
-  short-so m l = one-converted s d r (Refused 13 (length ws)) out d h (Converts.refuses 13 (length ws) (Refuses.by-room ws m l refl refl)) .0
+  short-so m l =
+      let g = Refuses.by-room ws m l refl refl in
+      one-converted s d r (Refused 13 (length ws)) out d h (Converts.refuses 13 (length ws) g) .0
 
 -- two lists of one length with the same words behind them are one list
 same-front : (vs ws a b : List ℕ) → length vs ≡ length ws → vs ++ a ≡ ws ++ b → vs ≡ ws
 same-front vs ws a b e q =
     sym (take-append-seam vs a) ∙ (λ i. take (e i) (q i)) ∙ take-append-seam ws b
 
-pub meets-so : (s d : List ℕ) (r : Converted) (out ws : List ℕ) → Converts s d r out → r ≡ Words (length ws) → out ≡ ws ++ drop (length ws) d
-    → Meets s ws
+pub meets-so : (s d : List ℕ) (r : Converted) (out ws : List ℕ) → Converts s d r out → r ≡ Words (length ws)
+    → out ≡ ws ++ drop (length ws) d → Meets s ws
 meets-so s d r out ws (Converts.refuses n p a) e q = absurd (refused-not n p (length ws) e)
   where
     refused-not : (n p m : ℕ) → Refused n p ≡ Words m → ⊥

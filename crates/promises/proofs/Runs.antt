@@ -159,7 +159,8 @@ module _ (s d : List ℕ) (n : ℕ) (out : List ℕ) (h : Converts s d (Words n)
 
     pub own-config : (c : Config) × Says (knownElements x) c
     own-config =
-        (ran s (take n out) back, subst (λ (y : Node). Says (knownElements y) (ran s (take n out) back)) its-document (ran-says s (take n out) back))
+        let c = ran s (take n out) back in
+        (c, subst (λ (y : Node). Says (knownElements y) c) its-document (ran-says s (take n out) back))
 
     pub same-run-as : (c : Config) → Says (knownElements x) c → SameRun (take n out) c
     same-run-as c o = same-run s (take n out) back c (subst (λ (y : Node). Says (knownElements y) c) (sym its-document) o)

@@ -27,5 +27,25 @@ pub hand-checks : Every Holds table
 unfolding Every table bytes same isBlank isStart isDigit isName find numberOf numberedToken lexFrom lex numbers compiled compiledFrom
     parseChain readChain allNamed code wordOf digit digitsFrom digits numberSpelt matches filtersOn firstMatch passes fires states firings
     zipWith
-hand-checks =
-    (given _, (given _, (given _, (given _, (given _, (given _, (given _, (refl, (refl, (refl, (refl, (refl, (refl, (refl, (refl, tt)))))))))))))))
+hand-checks = (
+  given _,
+  (
+    given _,
+    (
+      given _,
+      (
+        given _,
+        (
+          given _,
+          (
+            given _,
+            (
+              given _,
+              (refl, (refl, (refl, (refl, (refl, (refl, (refl, (refl, tt)))))))),
+            ),
+          ),
+        ),
+      ),
+    ),
+  ),
+)

@@ -77,8 +77,9 @@ module _ (k : Known) where
   fit-parts : misfit k ≡ false → Fit
   unfolding misfit
   fit-parts m =
-      last-three (any (λ a. not (any (λ r. same (a .name) (bytes (r .name))) (rulesOf (k .name)))) (k .attributes)) (repeated (k .attributes))
-      (any (λ r. r .required && not (has k (r .name))) (rulesOf (k .name))) (has k "dlc" && not (has k "dlc_min"))
+      last-three (any (λ a. not (any (λ r. same (a .name) (bytes (r .name))) (rulesOf (k .name)))) (k .attributes))
+      (repeated (k .attributes)) (any (λ r. r .required && not (has k (r .name))) (rulesOf (k .name)))
+      (has k "dlc" && not (has k "dlc_min"))
       (has k "dlc_min" && not (has k "dlc")) m
 
   required-in : misfit k ≡ false → any (λ r. r .required && not (has k (r .name))) (rulesOf (k .name)) ≡ false

@@ -133,13 +133,15 @@ no-refusal none es e o h = refl
 no-refusal (some n) es e o h = absurd (omega (arith, ap length (rw o at h)))
 
 module _ (names : List (List ℕ)) (few : length names ≤ 32) where
-  coded : (ks : List Known) (fs : List Fault) (ss : List PlanStatement) → All Whole ks → Composes names ks fs ss → fs ≡ [] → Coded names ks ss
+  coded : (ks : List Known) (fs : List Fault) (ss : List PlanStatement) → All Whole ks → Composes names ks fs ss → fs ≡ []
+      → Coded names ks ss
   coded [] fs ss h Composes.over e = Coded.over
   coded (k ∷ ks) fs ss h (Composes.next k₁ r code ks₁ gs ts b m) e =
       let a = append-none (gathered (λ y. faultOf r (y .place)) (expressionsOf k)) gs e in
       let w = (h .0 .1) (h .0 .0) in
       let z = no-refusal r (expressionsOf k) (w .1 .0) (w .1 .1) (a .0) in
-      Coded.next k code ks ts (good few (subst (λ (q : Option ℕ). Becomes names (expressionOf k) q code) z b)) (coded ks gs ts (h .1) m (a .1))
+      let c = subst (λ (q : Option ℕ). Becomes names (expressionOf k) q code) z b in
+      Coded.next k code ks ts (good few c) (coded ks gs ts (h .1) m (a .1))
 
   statement-in : (k : Known) (code : List ℕ) → Whole k → GoodCode names (expressionOf k) code
       → statementIn (length names) (record { post = valueOf k "posttrigger"; actions = actionsOf k; code = code }) ≡ true

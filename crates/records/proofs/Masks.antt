@@ -82,7 +82,8 @@ above : (c j r : ℕ) → (2 ^ (suc j + c) + r) / 2 ^ c % 2 ≡ r / 2 ^ c % 2
 above c j r =
     let e : 2 ^ (suc j + c) ≡ 2 ^ suc j * 2 ^ c = pow-add 2 (suc j) c in
     let d = mul-add-div-right {m = 2 ^ c} (pow-some c) (2 ^ suc j) r in
-    let q : (2 ^ (suc j + c) + r) / 2 ^ c ≡ 2 ^ j * 2 + r / 2 ^ c = ap (λ (k : ℕ). (k + r) / 2 ^ c) e ∙ (d ∙ ap (λ (k : ℕ). k + r / 2 ^ c) (pow·suc 2 j)) in
+    let q : (2 ^ (suc j + c) + r) / 2 ^ c ≡ 2 ^ j * 2 + r / 2 ^ c =
+    ap (λ (k : ℕ). (k + r) / 2 ^ c) e ∙ (d ∙ ap (λ (k : ℕ). k + r / 2 ^ c) (pow·suc 2 j)) in
     ap (λ (k : ℕ). k % 2) q ∙ mul-add-mod-self-right (2 ^ j) 2 (r / 2 ^ c)
 
 bit-below : (m c : ℕ) (cs : List ℕ) → c < m → eqb (sumFrom m cs / 2 ^ c % 2) 1 ≡ any (eqb c) cs

@@ -57,14 +57,17 @@ module _ (k : Known) where
   abbrev Lasts : Type 0
   Lasts = timeoutAt (valueOf k "timeout") ≡ cond (same timeoutGiven (bytes "-1")) Forever (Ms (valueOf k "timeout"))
 
-  lasts : (kind : Kind) → k .name ≡ kindName kind → worthBy (rulesIn elements (kindName kind)) (record { name = bytes "timeout"; value = timeoutGiven }) ≡ worthOf Timeout timeoutGiven → Lasts
+  lasts : (kind : Kind) → k .name ≡ kindName kind
+      → worthBy (rulesIn elements (kindName kind)) (record { name = bytes "timeout"; value = timeoutGiven }) ≡ worthOf Timeout timeoutGiven
+      → Lasts
   lasts kind m e = rw (m, e) (timeout-worth timeoutGiven)
 
   -- a filter without dlc
   abbrev Shortest : Type 0
   Shortest = cond (has k "dlc_min") (valueOf k "dlc_min") 0 ≡ valueOf k "dlc_min"
 
-  shortest : (kind : Kind) → k .name ≡ kindName kind → goodOf (worthBy (rulesIn elements (kindName kind)) (record { name = bytes "dlc_min"; value = [] })) ≡ 0 → Shortest
+  shortest : (kind : Kind) → k .name ≡ kindName kind
+      → goodOf (worthBy (rulesIn elements (kindName kind)) (record { name = bytes "dlc_min"; value = [] })) ≡ 0 → Shortest
   shortest kind m e = by-cases (has k "dlc_min") (λ t. rw t) (λ t. rw (t, m, spelled-none (bytes "dlc_min") (k .attributes) t, e))
 
 module _ (f : List ℕ) (k : Known) (d e : ℕ) (y : ElementAt f (suc d) (k .place) (node (k .place) (k .name) (k .attributes) (k .items)) e)
@@ -109,7 +112,8 @@ module _ (f : List ℕ) (k : Known) (d e : ℕ) (y : ElementAt f (suc d) (k .pla
 
   pub error-law : k .name ≡ kindName ErrorFrame → triggerFrom ErrorFrame (gatheredAt ErrorFrame f (k .place)) ≡ triggerOf k
   unfolding triggerFrom triggerOf kindName bytes same rulesIn elements worthBy askedOf askedFrom
-  error-law m = rw (number-law ErrorFrame m "timeout" 1 refl refl, lasts k ErrorFrame m refl, number-law ErrorFrame m "channel" 2 refl refl, m)
+  error-law m =
+      rw (number-law ErrorFrame m "timeout" 1 refl refl, lasts k ErrorFrame m refl, number-law ErrorFrame m "channel" 2 refl refl, m)
 
   pub startup-law : k .name ≡ kindName Startup → triggerFrom Startup (gatheredAt Startup f (k .place)) ≡ triggerOf k
   unfolding triggerFrom triggerOf kindName bytes same rulesIn elements worthBy askedOf askedFrom

@@ -130,7 +130,8 @@ module _ (f : List ℕ) where
       ≡ map triggerOf (kept (isIn "TRIGGERS") ks)
   unfolding kept
   triggers-law ks y h =
-      fold-holds (tellTrigger f) f (isIn "TRIGGERS") 32 TriggersHold trigger-turn ks noTriggers y h (filled-none (replicate 32 noTrigger)) .words
+      fold-holds (tellTrigger f) f (isIn "TRIGGERS") 32 TriggersHold trigger-turn ks noTriggers y h
+      (filled-none (replicate 32 noTrigger)) .words
 
 -- ---- names
 -- an attribute that the rules require is given
@@ -194,7 +195,8 @@ module _ (f : List ℕ) where
       (record {
         starts =
             rw (e, map-append (λ j. nameAt j .from) ms (k ∷ []))
-            (filled-one (map (λ j. nameAt j .from) ms) (replicate 32 0) (n .starts) (n .count) (n .count + 1) (nameAt k .from) (z .starts) c refl);
+            (filled-one (map (λ j. nameAt j .from) ms) (replicate 32 0) (n .starts) (n .count) (n .count + 1) (nameAt k .from) (z .starts) c
+            refl);
         ends =
             rw (e, map-append (λ j. nameAt j .to) ms (k ∷ []))
             (filled-one (map (λ j. nameAt j .to) ms) (replicate 32 0) (n .ends) (n .count) (n .count + 1) (nameAt k .to) (z .ends) c refl);
