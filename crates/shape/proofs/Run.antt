@@ -5,8 +5,8 @@ use mathlib.Core.List.{List, _∷_}
 use mathlib.Core.Bool.{Bool, true}
 use lib.ListN.{length, getD, drop, drop-of-length-le}
 use Rattle.text.specs.SpansCode.{spanAt}
-use Rattle.lists.proofs.Cases.{by-cases, le-or-lt}
-use Rattle.text.proofs.Spans.{drop-one, span-more, span-here, span-end, downward}
+use Rattle.lists.proofs.Cases.{le-or-lt}
+use Rattle.text.proofs.Spans.{drop-one, keeps-of}
 use Rattle.shape.specs.MachineCode.{State, live, dead, bad, stepByte, end, runFrom, at}
 
 pub run-live : (q : State) {q′ : State} (b : ℕ) (s : List ℕ) (i : ℕ) → stepByte q b ≡ live q′ → runFrom q (b ∷ s) i ≡ runFrom q′ s (i + 1)
@@ -28,16 +28,9 @@ unfolding runFrom
 at-end q s i h = ap (λ (l : List ℕ). runFrom q l i) (drop-of-length-le s h)
 
 -- a state that stays at each byte of the kind
-span-run : (p : ℕ → Bool) (s : List ℕ) (q : State) → ((b : ℕ) → p b ≡ true → stepByte q b ≡ live q) → (i : ℕ)
-    → at q s i ≡ at q s (spanAt p (drop i s) i)
-span-run p s q g = downward s (λ i. at q s i ≡ at q s (spanAt p (drop i s) i))
-    (λ i h. ap (at q s) (sym (span-end p s i h)))
-    (λ i h r. by-cases (p (getD s i 0)) (λ t. at-step q s i h (g (getD s i 0) t) ∙ r ∙ ap (at q s) (sym (span-more p s i h t)))
-    (λ t. ap (at q s) (sym (span-here p s i h t))))
-
 pub run-of : (p : ℕ → Bool) (s : List ℕ) (i j : ℕ) → j ≡ spanAt p (drop i s) i → (q : State)
     → ((b : ℕ) → p b ≡ true → stepByte q b ≡ live q) → at q s i ≡ at q s j
-run-of p s i j e q g = rw e (span-run p s q g i)
+run-of p s i j e q g = keeps-of p s i j e (at q s) (λ k h t. at-step q s k h (g (getD s k 0) t))
 
 -- two states that agree on the byte that comes
 same-in : (q q′ : State) (s : List ℕ) (i : ℕ) → i < length s → stepByte q (getD s i 0) ≡ stepByte q′ (getD s i 0) → at q s i ≡ at q′ s i

@@ -4,14 +4,16 @@ use native.Mathlib.Omega.{arith}
 use mathlib.Core.Path.{_≡_, refl, ap, _∙_}
 use mathlib.Core.List.{List}
 use mathlib.Core.Bool.{Bool, true, false}
-use lib.ListN.{length, getD}
+use lib.ListN.{length, getD, drop}
 use borrow.Author.Tests.{eq-eqb, ne-eqb}
 use Rattle.shape.specs.declared.Step.{Step}
 use Rattle.shape.specs.declared.Step.the-variants.{At, Bad}
 use Rattle.text.specs.Kinds.{isAny}
+use Rattle.text.specs.SpansCode.{spanAt, isPlain}
+use Rattle.text.proofs.Chains.{plain-is}
 use Rattle.shape.specs.MachineCode.{State, idle, comment, Zone, ComPart, bang, dash, text, textDash, textEnd, live, dead, Out, bad, stepByte, end, at, goes}
 use Rattle.shape.specs.ReadsCode.{WentOn, Reads, Expects}
-use Rattle.shape.proofs.Run.{at-step, at-dead, at-end}
+use Rattle.shape.proofs.Run.{at-step, at-dead, at-end, run-of}
 
 pub past-from : (s : List ℕ) (i j : ℕ) (r : Step) → i ≤ j → WentOn s j r → WentOn s i r
 past-from s i j (At k) h p = omega arith
@@ -85,6 +87,10 @@ module _ (s : List ℕ) (z : Zone) (j : ℕ) (h : j < length s) where
   pub com-bad : (d : Bool) → (getD s j 0 ≡ 45 → ⊥) → isAny (getD s j 0) ≡ false → at (comment (part d) z) s j ≡ bad j
   com-bad true e a = at-dead (comment textDash z) s j h (simp (ne-eqb _ _ e, a))
   com-bad false e a = at-dead (comment text z) s j h (simp (ne-eqb _ _ e, a))
+
+-- up to the next dash
+pub com-plain : (s : List ℕ) (z : Zone) (j k : ℕ) → k ≡ spanAt isPlain (drop j s) j → at (comment text z) s j ≡ at (comment text z) s k
+com-plain s z j k e = run-of isPlain s j k e (comment text z) (λ b t. let h = plain-is b t in rw (h .0, h .1))
 
 pub com-end : (s : List ℕ) (z : Zone) (j : ℕ) → length s ≤ j → (d : Bool) → at (comment (part d) z) s j ≡ bad j
 com-end s z j h d = at-end (comment (part d) z) s j h

@@ -2,9 +2,9 @@
 //
 // Promises: every answer is the definition's, for every byte.
 ghost use mathlib.Core.Path.{_≡_};
-ghost use mathlib.Core.Bool.{_&&_};
+ghost use mathlib.Core.Bool.{_&&_, _||_};
 ghost use lib.Dec.{leb};
-ghost use Rattle.text.specs.Kinds.{isBlank, isStart, isDigit, isName, isAny};
+ghost use Rattle.text.specs.Kinds.{between, isBlank, isStart, isDigit, isName, isAny};
 
 // Is b from lo to hi?
 pub(crate) fn within(b: u8, lo: u8, hi: u8) -> bool
@@ -27,16 +27,17 @@ pub fn is_blank(b: u8) -> bool
     }
 }
 
+// Without branches, so that both ranges become one.
+fn is_letter(b: u8) -> bool
+    ensures { λ r. ⌜ r ≡ (between "az" b || between "AZ" b) ⌝ }
+{
+    ((b'a' <= b) & (b <= b'z')) | ((b'A' <= b) & (b <= b'Z'))
+}
+
 pub fn is_start(b: u8) -> bool
     ensures { λ r. ⌜ r ≡ isStart b ⌝ }
 {
-    if within(b, b'a', b'z') {
-        true
-    } else if within(b, b'A', b'Z') {
-        true
-    } else {
-        b == b'_'
-    }
+    if is_letter(b) { true } else { b == b'_' }
 }
 
 fn is_digit(b: u8) -> bool
@@ -48,7 +49,13 @@ fn is_digit(b: u8) -> bool
 pub fn is_name(b: u8) -> bool
     ensures { λ r. ⌜ r ≡ isName b ⌝ }
 {
-    if is_start(b) { true } else { is_digit(b) }
+    if is_letter(b) {
+        true
+    } else if is_digit(b) {
+        true
+    } else {
+        b == b'_'
+    }
 }
 
 // A byte that may stand in a comment.

@@ -1,10 +1,11 @@
-// Where a run of bytes of one kind ends: blanks, names, values, texts, declarations.
+// Where a run of bytes of one kind ends: blanks, names, values, texts, declarations, comments up to a dash.
 //
 // Promises: every answer is the definition's, for every text and every offset.
 ghost use mathlib.Core.Path.{_≡_};
-ghost use lib.ListN.{drop};
+ghost use Prim.Native.Nat.{_+_, _≤_};
+ghost use lib.ListN.{length, drop};
 ghost use Rattle.text.specs.Kinds.{isBlank, isName, isDecl, isValue, isText};
-ghost use Rattle.text.specs.SpansCode.{spanAt};
+ghost use Rattle.text.specs.SpansCode.{spanAt, allAt, isPlain};
 use crate::letters;
 
 // The offset behind the blanks at i.
@@ -95,11 +96,11 @@ pub fn value_end(s: &[u8], i: usize) -> usize
     j
 }
 
-// The offset behind the text at i.
+// The offset behind the text at i. Blanks first: most texts are nothing else.
 pub fn text_end(s: &[u8], i: usize) -> usize
     ensures { λ r. ⌜ r ≡ spanAt isText (drop i (now (s .entry))) i ⌝ }
 {
-    let mut j = i;
+    let mut j = blanks_end(s, i);
     while j < s.len() {
         let b = s[j];
         if is_text(b) {
@@ -119,6 +120,70 @@ pub fn decl_end(s: &[u8], i: usize) -> usize
     while j < s.len() {
         let b = s[j];
         if is_decl(b) {
+            j += 1;
+        } else {
+            return j;
+        }
+    }
+    j
+}
+
+// The test of `plain_end` without branches: sixteen of these become a few instructions.
+fn is_plain(b: u8) -> bool
+    ensures { λ r. ⌜ r ≡ isPlain b ⌝ }
+{
+    (b != b'-') & ((0x20 <= b) | (b == b'\t') | (b == b'\r') | (b == b'\n'))
+}
+
+// Are the four bytes at i all plain?
+fn is_plain_four(s: &[u8], i: usize) -> bool
+    requires { ⌜ i + 4 ≤ length (now s) ⌝ }
+    ensures { λ r. ⌜ r ≡ allAt isPlain (now (s .entry)) i 4 ⌝ }
+{
+    is_plain(s[i]) & is_plain(s[i + 1]) & is_plain(s[i + 2]) & is_plain(s[i + 3])
+}
+
+// Are the sixteen bytes at i all plain?
+fn is_block(s: &[u8], i: usize) -> bool
+    requires { ⌜ i + 16 ≤ length (now s) ⌝ }
+    ensures { λ r. ⌜ r ≡ allAt isPlain (now (s .entry)) i 16 ⌝ }
+{
+    is_plain_four(s, i)
+        & is_plain_four(s, i + 4)
+        & is_plain_four(s, i + 8)
+        & is_plain_four(s, i + 12)
+}
+
+// Behind blocks of plain bytes at i, so that the run goes on or ends here.
+fn blocks_end(s: &[u8], i: usize) -> usize
+    ensures { λ r. ⌜ spanAt isPlain (drop r (now (s .entry))) r ≡ spanAt isPlain (drop i (now (s .entry))) i ⌝ }
+{
+    let mut j = i;
+    if s.len() < 16 {
+        return j;
+    }
+    let last = s.len() - 16;
+    while j <= last {
+        if is_block(s, j) {
+            j += 16;
+        } else {
+            return j;
+        }
+    }
+    j
+}
+
+// The offset behind the bytes of a comment at i of which none is a dash.
+pub fn plain_end(s: &[u8], i: usize) -> usize
+    ensures { λ r. ⌜ r ≡ spanAt isPlain (drop i (now (s .entry))) i ⌝ }
+{
+    let mut j = blocks_end(s, i);
+    while j < s.len() {
+        let b = s[j];
+        if b == b'-' {
+            return j;
+        }
+        if letters::is_any(b) {
             j += 1;
         } else {
             return j;

@@ -8,8 +8,10 @@ use borrow.Author.Tests.{eqb-true, eqb-false}
 use lib.Dec.{eqb}
 use lib.ListN.{length, getD, drop, drop-of-length-le, List·getD-eq-default}
 use Rattle.text.specs.Kinds.{isBlank, isStart, isName, isValue, isText}
+use Rattle.text.specs.SpansCode.{spanAt, isPlain}
 use Rattle.lists.proofs.Cases.{by-cases, le-or-lt}
-use Rattle.text.proofs.Spans.{drop-one, downward, span-end, low-of, high-of}
+use Rattle.text.proofs.Chains.{plain-is}
+use Rattle.text.proofs.Spans.{drop-one, downward, span-end, low-of, high-of, keeps-of}
 use Rattle.walk.specs.declared.TagPart.{TagPart}
 use Rattle.walk.specs.declared.Item.{Item}
 use Rattle.walk.specs.declared.Body.{Body}
@@ -40,6 +42,17 @@ module _ (f : List ℕ) (i : ℕ) where
   pub end-over : length f ≤ i → remarkEnd f (drop i f) i ≡ i
   unfolding remarkEnd
   end-over h = ap (λ (l : List ℕ). remarkEnd f l i) (drop-of-length-le f h)
+
+plain-open : (f : List ℕ) (i : ℕ) → isPlain (getD f i 0) ≡ true → closesRemark f i ≡ false
+unfolding closesRemark
+plain-open f i t = rw (plain-is (getD f i 0) t .0)
+
+-- up to the next dash, behind a byte that does not close
+pub end-plain : (f : List ℕ) (i j : ℕ) → i < length f → closesRemark f i ≡ false → j ≡ spanAt isPlain (drop (i + 1) f) (i + 1)
+    → remarkEnd f (drop i f) i ≡ remarkEnd f (drop j f) j
+end-plain f i j h c e =
+    end-more f i h c
+    ∙ keeps-of isPlain f (i + 1) j e (λ k. remarkEnd f (drop k f) k) (λ k l t. end-more f k l (plain-open f k t))
 
 remark-bounds : (f : List ℕ) (i : ℕ) → i ≤ length f → (i ≤ remarkEnd f (drop i f) i) × (remarkEnd f (drop i f) i ≤ length f)
 remark-bounds f = downward f (λ i. i ≤ length f → (i ≤ remarkEnd f (drop i f) i) × (remarkEnd f (drop i f) i ≤ length f))

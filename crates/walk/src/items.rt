@@ -29,7 +29,7 @@ fn remark_end(file: &[u8], i: usize) -> usize
         if closes(file, j) {
             return j + 3;
         }
-        j += 1;
+        j = runs::plain_end(file, j + 1);
     }
     j
 }

@@ -5,6 +5,7 @@ ghost use Rattle.shape.specs.MachineCode.{idle, comment, bang, text};
 ghost use Rattle.shape.specs.ReadsCode.{Reads};
 use shape::Step;
 use text::letters;
+use text::runs;
 
 // Behind `<!--`: to behind `-->`.
 fn comment_text(file: &[u8], from: usize) -> Step
@@ -21,7 +22,7 @@ fn comment_text(file: &[u8], from: usize) -> Step
             here += 1;
             dashed = true;
         } else if letters::is_any(b) {
-            here += 1;
+            here = runs::plain_end(file, here + 1);
             dashed = false;
         } else {
             return Step::Bad(here);

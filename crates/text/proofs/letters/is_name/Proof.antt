@@ -3,23 +3,31 @@
 use borrow.Author.Needs.{needs}
 use Rattle.text.proofs.letters.is_name.Statement.{statement}
 use Rattle.text.proofs.letters.is_name.Tie as tie
-use mathlib.Core.Path.{_∙_}
-use Rattle.text.proofs.Chains.{or-first, or-second}
-use Rattle.text.specs.Kinds.{isName}
+use Rattle.text.proofs.letters.is_name.Reads as reads
+use Rattle.text.proofs.letters.is_name.Lts as lts
+use Rattle.text.proofs.letters.is_digit.Reads as is-digit-reads
+use Rattle.text.proofs.letters.is_letter.Reads as is-letter-reads
+use Rattle.text.proofs.Chains.{or-3-first, or-3-second, or-3-third}
+use Rattle.text.specs.Kinds.{isName, isStart}
 
-is-start-requires : tie.Need-is-start-requires
-is-start-requires c κs = search needs
+is-letter-requires : tie.Need-is-letter-requires
+is-letter-requires c κs = search needs
 
 is-digit-requires : tie.Need-is-digit-requires
 is-digit-requires c κs = search needs
 
 returns : tie.Need-returns
-unfolding isName
-returns c = or-first _ (c .before .is-start .ensures) (c .if1 .taken)
+unfolding isName isStart
+returns c = or-3-first _ _ (c .before .is-letter .ensures) (c .if1 .taken)
 
 returns-2 : tie.Need-returns-2
-unfolding isName
-returns-2 c = c .is-digit .ensures ∙ or-second (c .before .before .is-start .ensures) (c .before .if1 .left)
+unfolding isName isStart
+returns-2 c = or-3-third _ (c .before .before .before .is-letter .ensures) (c .before .before .if1 .left) (c .before .is-digit .ensures) (c .if2 .taken)
+
+returns-3 : tie.Need-returns-3
+unfolding isName isStart
+returns-3 c = or-3-second (c .before .before .before .is-letter .ensures) (c .before .before .if1 .left) (c .before .is-digit .ensures) (c .if2 .left)
 
 pub is-name-spec : {M : Type 1} → statement M
-is-name-spec = tie.close (tie.spec is-start-requires is-digit-requires returns returns-2)
+is-name-spec =
+    tie.close (tie.spec is-letter-requires is-digit-requires returns returns-2 returns-3)

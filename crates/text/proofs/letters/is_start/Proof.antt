@@ -3,26 +3,22 @@
 use borrow.Author.Needs.{needs}
 use Rattle.text.proofs.letters.is_start.Statement.{statement}
 use Rattle.text.proofs.letters.is_start.Tie as tie
-use Rattle.text.proofs.Chains.{or-3-first, or-3-second, or-3-third}
+use Rattle.text.proofs.letters.is_start.Reads as reads
+use Rattle.text.proofs.letters.is_start.Lts as lts
+use Rattle.text.proofs.letters.is_letter.Reads as is-letter-reads
+use Rattle.text.proofs.Chains.{or-first, or-second}
 use Rattle.text.specs.Kinds.{isStart}
 
-within-requires : tie.Need-within-requires
-within-requires c κs = search needs
-
-within-requires-2 : tie.Need-within-requires-2
-within-requires-2 c κs = search needs
+is-letter-requires : tie.Need-is-letter-requires
+is-letter-requires c κs = search needs
 
 returns : tie.Need-returns
 unfolding isStart
-returns c = or-3-first _ _ (c .before .within .ensures) (c .if1 .taken)
+returns c = or-first _ (c .before .is-letter .ensures) (c .if1 .taken)
 
 returns-2 : tie.Need-returns-2
 unfolding isStart
-returns-2 c = or-3-second _ (c .before .before .before .within .ensures) (c .before .before .if1 .left) (c .before .within2 .ensures) (c .if2 .taken)
-
-returns-3 : tie.Need-returns-3
-unfolding isStart
-returns-3 c = or-3-third (c .before .before .before .within .ensures) (c .before .before .if1 .left) (c .before .within2 .ensures) (c .if2 .left)
+returns-2 c = or-second (c .before .is-letter .ensures) (c .if1 .left)
 
 pub is-start-spec : {M : Type 1} → statement M
-is-start-spec = tie.close (tie.spec within-requires within-requires-2 returns returns-2 returns-3)
+is-start-spec = tie.close (tie.spec is-letter-requires returns returns-2)

@@ -2,12 +2,17 @@
 -- `text::runs::text_end` meets its contract. The loop's invariant: from here the span ends where it ends from i.
 use Rattle.text.proofs.runs.text_end.Statement.{statement}
 use Rattle.text.proofs.runs.text_end.Tie as tie
-use Rattle.text.proofs.Spans.{span-more, span-here, span-end}
-use Rattle.text.specs.Kinds.{isText}
+use Rattle.text.proofs.runs.text_end.Reads as reads
+use Rattle.text.proofs.runs.text_end.Lts as lts
+use Rattle.text.proofs.runs.blanks_end.Reads as blanks-end-reads
+use Rattle.text.proofs.runs.is_text.Reads as is-text-reads
+use Rattle.text.proofs.Spans.{span-more, span-here, span-end, wider-of}
+use Rattle.text.proofs.Chains.{blank-text}
+use Rattle.text.specs.Kinds.{isBlank, isText}
 use Rattle.text.specs.SpansCode.{spanAt}
 use lib.ListN.{length, drop}
 use Prim.Native.Nat.{_-_}
-use mathlib.Core.Path.{_≡_, refl, sym, _∙_}
+use mathlib.Core.Path.{_≡_, sym, _∙_}
 use borrow.Author.Needs.{needs}
 
 abbrev Inv-loop : tie.InvT-loop
@@ -16,8 +21,11 @@ Inv-loop s i j₀ j = spanAt isText (drop j s) j ≡ spanAt isText (drop i s) i
 abbrev μ-loop : tie.MeasureT-loop
 μ-loop s i j₀ j = length s - j
 
+blanks-end-requires : tie.Need-blanks-end-requires Inv-loop μ-loop
+blanks-end-requires c κs = search needs
+
 loop-holds : tie.Need-loop-holds Inv-loop μ-loop
-loop-holds c = refl
+loop-holds c = wider-of isBlank (c .before .before .args .s .now) (c .before .before .args .i) (c .blanks-end .result) (c .blanks-end .ensures) isText blank-text
 
 shared-slice-read-b : tie.Need-shared-slice-read-b Inv-loop μ-loop
 shared-slice-read-b c = search needs
@@ -46,6 +54,7 @@ text-end-spec =
     (tie.spec
     Inv-loop
     μ-loop
+    blanks-end-requires
     loop-holds
     shared-slice-read-b
     is-text-requires

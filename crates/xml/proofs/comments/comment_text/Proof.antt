@@ -5,9 +5,12 @@ use Rattle.xml.proofs.comments.comment_text.Tie as tie
 use Rattle.xml.proofs.comments.comment_text.Reads as reads
 use Rattle.xml.proofs.comments.comment_text.Lts as lts
 use Rattle.text.proofs.letters.is_any.Reads as is-any-reads
+use Rattle.text.proofs.runs.plain_end.Reads as plain-end-reads
 use Rattle.xml.proofs.expect.Reads as expect-reads
 use Prim.Native.Nat.{_-_, _+_, _≤_}
-use Rattle.shape.proofs.Steps.{past-from, part, com-dash, com-dash-2, com-any, com-bad, com-close, com-end}
+use Rattle.shape.proofs.Steps.{past-from, part, com-dash, com-dash-2, com-any, com-plain, com-bad, com-close, com-end}
+use Rattle.text.proofs.Spans.{low-of}
+use Rattle.text.specs.SpansCode.{isPlain}
 use Rattle.shape.specs.MachineCode.{comment, Zone, text, at}
 use lib.ListN.{length}
 use mathlib.Core.Path.{_≡_, sym, _∙_}
@@ -47,14 +50,17 @@ loop-again c = let s = c .before .before .before .before .before .before .args .
 is-any-requires : tie.Need-is-any-requires Inv-loop μ-loop
 is-any-requires c κs = search needs
 
-add-here-2 : tie.Need-add-here-2 Inv-loop μ-loop
-add-here-2 c = search needs
+add-plain-end : tie.Need-add-plain-end Inv-loop μ-loop
+add-plain-end c = search needs
+
+plain-end-requires : tie.Need-plain-end-requires Inv-loop μ-loop
+plain-end-requires c κs = search needs
 
 loop-less-2 : tie.Need-loop-less-2 Inv-loop μ-loop
-loop-less-2 c = search needs
+loop-less-2 c = let h = low-of isPlain (c .before .before .before .before .before .before .before .before .args .file .now) (c .before .before .before .before .before .before .loop .here + 1) (c .plain-end .result) (c .plain-end .ensures) in omega arith
 
 loop-again-2 : tie.Need-loop-again-2 Inv-loop μ-loop
-loop-again-2 c = let s = c .before .before .before .before .before .before .before .args .file .now in let l = c .before .before .before .before .before .loop in (omega arith, λ z. sym (com-any s z (l .here) (c .before .before .before .before .loop-test .taken) (l .dashed) (c .before .before .if1 .left) (sym (c .before .is-any .ensures) ∙ c .if3 .taken)) ∙ l .inv .1 z)
+loop-again-2 c = let s = c .before .before .before .before .before .before .before .before .args .file .now in let l = c .before .before .before .before .before .before .loop in let k = c .plain-end .result in let e = c .plain-end .ensures in (let h = low-of isPlain s (l .here + 1) k e in omega arith, λ z. sym (com-any s z (l .here) (c .before .before .before .before .before .loop-test .taken) (l .dashed) (c .before .before .before .if1 .left) (sym (c .before .before .is-any .ensures) ∙ c .before .if3 .taken) ∙ com-plain s z (l .here + 1) k e) ∙ l .inv .1 z)
 
 returns-2 : tie.Need-returns-2 Inv-loop μ-loop
 returns-2 c = let s = c .before .before .before .before .before .before .before .args .file .now in let l = c .before .before .before .before .before .loop in record { run = λ z. sym (l .inv .1 z) ∙ com-bad s z (l .here) (c .before .before .before .before .loop-test .taken) (l .dashed) (c .before .before .if1 .left) (sym (c .before .is-any .ensures) ∙ c .if3 .left); past = tt }
@@ -77,7 +83,8 @@ comment-text-spec =
     loop-less
     loop-again
     is-any-requires
-    add-here-2
+    add-plain-end
+    plain-end-requires
     loop-less-2
     loop-again-2
     returns-2
