@@ -38,6 +38,13 @@ def read(path):
     with open(path, encoding='utf-8') as f: return f.read()
 
 
+def lean(text):
+    """Without the modules that nothing names."""
+    lines = text.split('\n')
+    named = lambda l: (re.match(r'use [^\s{]+ as (\S+)$', l) or [None, None])[1]
+    return '\n'.join(l for l in lines if not named(l) or any(re.search(r'(?<![\w·-])' + re.escape(named(l)) + r'\.', m) for m in lines if m != l))
+
+
 def write(path, text):
     os.makedirs(os.path.dirname(path), exist_ok=True)
     with open(path, 'w', encoding='utf-8') as f: f.write(text)
@@ -88,7 +95,7 @@ def reach(crate, fn):
     """For each need: how many `.before` lead to each thing, and what to say of it."""
     found = {}
     for f in steps_of(crate, fn):
-        member = re.search(r'Lts(?:-(\S+))?\.antt', f).group(1)
+        member = (re.search(r'Lts(?:-(\S+))?\.antt', f).group(1) or '').replace('_', '-')
         lines, places, own, now, key = read(f).split('\n'), {}, {}, None, None
         for l in lines:
             m = re.match(r'\s+pub record (\S+?)(·own)? :', l)
@@ -186,7 +193,7 @@ def make(crate, fn, skeleton):
     last = max(i for i, l in enumerate(lines) if l.startswith('use '))
     if any('search needs' in l for l in lines) and not any('Needs.{needs}' in l for l in lines + uses): uses.append('use borrow.Author.Needs.{needs}')
     top = [f'-- Made by tools/prove.py from answers/{fn}.txt: change that file, not this one.'] + heads
-    write(proof_of(crate, fn), '\n'.join(top + lines[:last + 1] + [u for u in uses if u not in lines] + ([''] + '\n\n'.join(defs).split('\n') if defs else []) + lines[last + 1:]).rstrip() + '\n')
+    write(proof_of(crate, fn), lean('\n'.join(top + lines[:last + 1] + [u for u in uses if u not in lines] + ([''] + '\n\n'.join(defs).split('\n') if defs else []) + lines[last + 1:]).rstrip() + '\n'))
     print('wrote', proof_of(crate, fn))
 
 

@@ -13,9 +13,9 @@ use Rattle.grammar.proofs.Names.{few-names}
 use Rattle.grammar.proofs.Ruled.{becomes}
 use Rattle.records.specs.Records.{PlanStatement}
 use Rattle.file_rules.specs.Element.{Known, Fault}
-use Rattle.document.specs.declared.Index.{Index}
 use Rattle.file_rules.specs.Document.{knownElements, elementFaults}
-use Rattle.document.specs.DocumentCode.{refusedIndex, indexOf, Indexes}
+use Rattle.document.specs.EntriesCode.{entryOf}
+use Rattle.document.specs.DocumentCode.{Index, refusedIndex, indexOf, Indexes}
 use Rattle.writer.specs.declared.Sheet.{Sheet}
 use Rattle.writer.specs.declared.Written.{Written}
 use Rattle.writer.specs.declared.Written.the-variants.{Words, Short}
@@ -64,11 +64,15 @@ shape-number Whole n p e = absurd (Option·none-ne-some (n, p) e)
 shape-number TooLong n p e = omega (arith, same-pair _ refl e .0)
 shape-number (Broken q) n p e = omega (arith, same-pair _ refl e .0)
 
-fault-first : (f : List ℕ) (x : Index) → 1 ≤ x .fault .number → tabled f x .fault ≡ x .fault
+-- the tables by an index
+abbrev tabledBy : List ℕ → Index → Telling
+tabledBy f x = tabled f (x .fault) (x .entries)
+
+fault-first : (f : List ℕ) (x : Index) → 1 ≤ x .fault .number → tabledBy f x .fault ≡ x .fault
 unfolding tabled
 fault-first f x h = rw (ne-eqb (x .fault .number) 0 (λ z. absurd (omega (arith, z, h))))
 
-fault-then : (f : List ℕ) (ks : List Known) → tabled f (indexOf ks) .fault ≡ tableFault f (indexOf ks) (told f (indexOf ks))
+fault-then : (f : List ℕ) (ks : List Known) → tabledBy f (indexOf ks) .fault ≡ tableFault f (map entryOf ks) (told f (map entryOf ks))
 unfolding tabled indexOf
 fault-then f ks = refl
 
@@ -93,7 +97,7 @@ module _ (f : List ℕ) where
   refuse-by d x short w e (a ∷ l) q h =
       Converts.refuses (a .number) (a .place) (refuse-early f (length d) x short w a l (rw (e, q)))
 
-  refuse-at : (d : List ℕ) (x : Index) → Indexes f x → (tabled f x .fault .number ≡ 0 → ⊥) → RefusedBy f d (tabled f x .fault)
+  refuse-at : (d : List ℕ) (x : Index) → Indexes f x → (tabledBy f x .fault .number ≡ 0 → ⊥) → RefusedBy f d (tabledBy f x .fault)
   refuse-at d x (Indexes.shapeless a n p s e) h =
       subst (RefusedBy f d) (sym (fault-first f _ (shape-number a n p e))) (Converts.refuses n p (Refuses.by-shape a s e))
   refuse-at d x (Indexes.faulty y a l short w e) h =
@@ -102,7 +106,7 @@ module _ (f : List ℕ) where
       (refuse-early f (length d) y short w a (l ++ tableFaults (knownElements y))
       (ap (λ (fs : List Fault). fs ++ tableFaults (knownElements y)) e)))
   refuse-at d x (Indexes.faultless y short w e) h =
-      let q : tabled f (indexOf (knownElements y)) .fault ≡ firstOf (tableFaults (knownElements y)) = fault-then f (knownElements y)
+      let q : tabledBy f (indexOf (knownElements y)) .fault ≡ firstOf (tableFaults (knownElements y)) = fault-then f (knownElements y)
       ∙ reads-well f y short w e .fault in
       subst (RefusedBy f d) (sym q)
       (refuse-by d y short w e (tableFaults (knownElements y)) refl (λ z. h (ap (λ (r : Refusal). r .number) q ∙ z)))
@@ -110,16 +114,17 @@ module _ (f : List ℕ) where
   pub converts-refused : (d : List ℕ) (r : Telling) → Tabled f r → (r .fault .number ≡ 0 → ⊥)
       → Converts f d (answer.Refused (r .fault .number) (r .fault .place)) d
   converts-refused d r t h =
-      let q : r .fault ≡ tabled f (t .index) .fault = ap (λ (z : Telling). z .fault) (t .same-tables) in
+      let q : r .fault ≡ tabledBy f (t .index) .fault = ap (λ (z : Telling). z .fault) (t .same-tables) in
       subst (RefusedBy f d) (sym q) (refuse-at d (t .index) (t .indexes) (λ z. h (ap (λ (y : Refusal). y .number) q ∙ z)))
 
   -- ---- no refusal by the tables
   clear-by : (x : Node) → length f ≤ 32768 → WellShaped f x → elementFaults x ≡ [] → (ts : List Fault) → tableFaults (knownElements x) ≡ ts
-      → firstOf ts .number ≡ 0 → Clear f (told f (indexOf (knownElements x)))
+      → firstOf ts .number ≡ 0 → Clear f (told f (map entryOf (knownElements x)))
   clear-by x short w e [] q h = record { root = x; short = short; shaped = w; faultless = e; tables = q; reads = reads-well f x short w e }
   clear-by x short w e (a ∷ l) q h = absurd (omega (arith, table-number (knownElements x) a l q, h))
 
-  clear-at : (x : Index) → Indexes f x → tabled f x .fault .number ≡ 0 → Clear f (told f x)
+  clear-at : (x : Index) → Indexes f x → tabledBy f x .fault .number ≡ 0 → Clear f (told f (x .entries))
+  unfolding indexOf
   clear-at x (Indexes.shapeless a n p s e) h =
       let g = shape-number a n p e in
       absurd (omega (arith, g, ap (λ (r : Refusal). r .number) (fault-first f (refusedIndex n p) g), h))
@@ -127,15 +132,15 @@ module _ (f : List ℕ) where
       let g = element-number y a l e in
       absurd (omega (arith, g, ap (λ (r : Refusal). r .number) (fault-first f (refusedIndex (a .number) (a .place)) g), h))
   clear-at x (Indexes.faultless y short w e) h =
-      let q : tabled f (indexOf (knownElements y)) .fault ≡ firstOf (tableFaults (knownElements y)) = fault-then f (knownElements y)
+      let q : tabledBy f (indexOf (knownElements y)) .fault ≡ firstOf (tableFaults (knownElements y)) = fault-then f (knownElements y)
       ∙ reads-well f y short w e .fault in
       clear-by y short w e (tableFaults (knownElements y)) refl (sym (ap (λ (r : Refusal). r .number) q) ∙ h)
 
   pub clear : (r : Telling) → Tabled f r → r .fault .number ≡ 0 → Clear f (r .told)
   unfolding tabled
   clear r t h =
-      let q : r .fault ≡ tabled f (t .index) .fault = ap (λ (z : Telling). z .fault) (t .same-tables) in
-      let p : r .told ≡ told f (t .index) = ap (λ (z : Telling). z .told) (t .same-tables) in
+      let q : r .fault ≡ tabledBy f (t .index) .fault = ap (λ (z : Telling). z .fault) (t .same-tables) in
+      let p : r .told ≡ told f (t .index .entries) = ap (λ (z : Telling). z .told) (t .same-tables) in
       subst (Clear f) (sym p) (clear-at (t .index) (t .indexes) (sym (ap (λ (y : Refusal). y .number) q) ∙ h))
 
 -- ---- the expressions, and the words: of a document that is clear so far

@@ -6,11 +6,10 @@ use mathlib.Core.Bool.{Bool, true, false, _||_, true≢false}
 use lib.Dec.{eqb}
 use borrow.Author.Tests.{eq-eqb, ne-eqb, eqb-true}
 use Rattle.lists.proofs.Cases.{by-cases}
-use Rattle.schema.specs.SchemaCode.{kinds, kindAmong}
 use Rattle.file_rules.specs.Element.{Known, ownFaults}
 use Rattle.element.specs.ElementCode.{firstNumber}
-use Rattle.document.specs.declared.Index.{Index}
-use Rattle.document.specs.DocumentCode.{refusedIndex, entered, absorbed, absorb}
+use Rattle.document.specs.EntriesCode.{entryOf}
+use Rattle.document.specs.DocumentCode.{Index, refusedIndex, entered, absorbed, absorb}
 use Rattle.lists.specs.Lists.{any}
 
 pub absorb-append : (ks ms : List Known) (x : Index) → absorb (ks ++ ms) x ≡ absorb ms (absorb ks x)
@@ -31,7 +30,7 @@ absorb-none ks x e =
 
 -- an element without a fault is entered
 pub absorb-enter : (k : Known) (x : Index) → eqb (x .fault .number) 0 ≡ true → firstNumber (ownFaults k) ≡ 0
-    → absorbed k x ≡ entered x (kindAmong kinds (k .name)) (k .place)
+    → absorbed k x ≡ entered x (entryOf k)
 unfolding absorbed
 absorb-enter k x o h = rw (o, eq-eqb (firstNumber (ownFaults k)) 0 h)
 

@@ -1,28 +1,29 @@
--- How many known elements a document without faults can have: 382 in all, so there is room for them in the index.
+-- How many known elements a document without faults can have, and the words that are kept of them: 3,468 at most.
 use Prim.Native.Nat.{ℕ, zero, suc, _+_, _*_, _-_, _≤_, _<_}
 use Prim.Native.String.{String}
 use native.Mathlib.Nat.{suc-mul}
 use native.Mathlib.Omega.{arith}
 use mathlib.Core.Path.{_≡_, refl, sym, ap, _∙_}
-use mathlib.Core.List.{List, [], _∷_, _++_, append-assoc}
+use mathlib.Core.List.{List, [], _∷_, _++_, map, append-assoc}
 use mathlib.Core.Bool.{true, false, cond, true≢false}
 use lib.Dec.{leb}
-use lib.ListN.{length}
+use lib.ListN.{length, length-append, length-set}
 use borrow.Author.Tests.{leb-true, leb-false}
 use Rattle.text.specs.Texts.{bytes, same}
 use Rattle.lists.proofs.Cases.{by-cases}
-use Rattle.text.proofs.Equal.{same-self, same-equal}
+use Rattle.text.proofs.Equal.{same-self, same-equal, same-back}
 use Rattle.shape.specs.Shape.{Attribute, Node, node, Items}
-use Rattle.schema.specs.declared.Kind.{Kind}
-use Rattle.schema.specs.declared.Kind.the-variants.{File}
 use Rattle.schema.specs.declared.Times.{Times}
 use Rattle.schema.specs.declared.Times.the-variants.{Once, OneTo, UpTo}
-use Rattle.schema.specs.Schema.{parents, parentIn, oneOf, under}
-use Rattle.schema.specs.SchemaCode.{kindName, kinds, kindAmong, kindUnder}
-use Rattle.schema.proofs.Every.{everywhere}
-use Rattle.schema.proofs.Laws.{kind-back, carried-name, carried-carried}
-use Rattle.document.proofs.Seens.{same-back}
-use Rattle.file_rules.specs.Element.{Known, Fault, tooMany, ownFaults}
+use Rattle.schema.specs.Schema.{Rule, Parent, parents, parentIn, oneOf, under, elements, rulesIn, rulesOf}
+use Rattle.schema.specs.SchemaCode.{kindName, kindOf, attributeOf, isRuled, knows}
+use Rattle.schema.proofs.Laws.{in-every-parent}
+use Rattle.file_rules.specs.Element.{Known, Fault, worthBy, goodOf, tooMany, ownFaults}
+use Rattle.element.specs.declared.Gathered.{Gathered}
+use Rattle.element.specs.ElementCode.{nothingGathered, putWorth, unfitted, judged, gatheredList}
+use Rattle.document.specs.EntriesCode.{gatheredOf, entryOf, written, rowSize}
+use Rattle.document.specs.DocumentCode.{Formed}
+use Rattle.lists.specs.BitsCode.{hasBit}
 use Rattle.file_rules.specs.Document.{alsoNamed, knownIn, knownAt, knownElements}
 use Rattle.lists.specs.Lists.{any, gathered}
 
@@ -128,10 +129,10 @@ unfolding ownFaults
 clean-few k e = by-cases (tooMany k) (λ t. absurd (some-fault (rw (clean-barred k e, t) at e))) (λ t. t)
 
 -- ---- where an element with the name n counts `unit n`
--- the most that an element of a kind can hold, d levels deep
-unfoldable pub most : (List ℕ → ℕ) → ℕ → Kind → ℕ
+-- the most that an element with the name q can hold, d levels deep
+unfoldable pub most : (List ℕ → ℕ) → ℕ → List ℕ → ℕ
 most unit zero q = 0
-most unit (suc d) q = room (λ n. unit n + most unit d (kindAmong kinds n)) (under (kindName q) .times) (under (kindName q) .carried) []
+most unit (suc d) q = room (λ n. unit n + most unit d n) (under q .times) (under q .carried) []
 
 unfoldable pub sum : (List ℕ → ℕ) → List Known → ℕ
 sum unit [] = 0
@@ -143,84 +144,104 @@ sum-append unit [] ms = omega arith
 sum-append unit (k ∷ ks) ms = let h = sum-append unit ks ms in omega (arith, h)
 
 -- known elements nest less than 8 deep: a ninth level adds nothing
+abbrev pub under-deep : (List ℕ → ℕ) → ℕ → Parent → ℕ
+under-deep unit d p = room (λ n. unit n + most unit d n) (p .times) (p .carried) []
+
 abbrev pub Settled : (List ℕ → ℕ) → Type 0
-Settled unit = (q : Kind) → most unit 9 q ≡ most unit 8 q
+Settled unit = map (under-deep unit 8) parents ≡ map (under-deep unit 7) parents
 
 module _ (unit : List ℕ → ℕ) (settled : Settled unit) where
   abbrev load : List ℕ → ℕ
-  load n = unit n + most unit 8 (kindAmong kinds n)
+  load n = unit n + most unit 8 n
 
-  abbrev roomOf : Kind → List (List ℕ) → ℕ
-  roomOf q earlier = room load (under (kindName q) .times) (under (kindName q) .carried) earlier
+  abbrev roomOf : List ℕ → List (List ℕ) → ℕ
+  roomOf q earlier = room load (under q .times) (under q .carried) earlier
 
-  room-is : (q : Kind) → roomOf q [] ≡ most unit 8 q
-  unfolding most
-  room-is q = settled q
+  room-is : (q : List ℕ) → roomOf q [] ≡ most unit 8 q
+  unfolding most top
+  room-is q = in-every-parent (under-deep unit 8) (under-deep unit 7) refl q settled
 
-  abbrev knownOf : Kind → List (List ℕ) → ℕ → List ℕ → List Attribute → Items → Known
-  knownOf q earlier p n l i = record { parent = under (kindName q); earlier = earlier; place = p; name = n; attributes = l; items = i }
+  abbrev knownOf : List ℕ → List (List ℕ) → ℕ → List ℕ → List Attribute → Items → Known
+  knownOf q earlier p n l i = record { parent = under q; earlier = earlier; place = p; name = n; attributes = l; items = i }
 
   mutual
     unfolding knownIn knownAt sum
 
-    few-in : (i : Items) (q : Kind) (earlier : List (List ℕ)) → Clean (knownIn (under (kindName q)) earlier i)
-        → sum unit (knownIn (under (kindName q)) earlier i) ≤ roomOf q earlier
+    few-in : (i : Items) (q : List ℕ) (earlier : List (List ℕ)) → Clean (knownIn (under q) earlier i)
+        → sum unit (knownIn (under q) earlier i) ≤ roomOf q earlier
     few-in Items.none q earlier h = omega arith
     few-in (Items.text b i) q earlier h = few-in i q earlier h
     few-in (Items.remark i) q earlier h = few-in i q earlier h
     few-in (Items.child x i) q earlier h =
-        let g =
-        clean-parts (knownAt (under (kindName q)) earlier x) (knownIn (under (kindName q)) (alsoNamed (under (kindName q)) earlier x) i)
-        h in
+        let g = clean-parts (knownAt (under q) earlier x) (knownIn (under q) (alsoNamed (under q) earlier x) i) h in
         let a = few-at x q earlier (g .0) in
-        let b = few-in i q (alsoNamed (under (kindName q)) earlier x) (g .1) in
-        rw
-        (sum-append unit (knownAt (under (kindName q)) earlier x)
-        (knownIn (under (kindName q)) (alsoNamed (under (kindName q)) earlier x) i)) (omega (arith, a, b))
+        let b = few-in i q (alsoNamed (under q) earlier x) (g .1) in
+        rw (sum-append unit (knownAt (under q) earlier x) (knownIn (under q) (alsoNamed (under q) earlier x) i)) (omega (arith, a, b))
 
-    few-at : (x : Node) (q : Kind) (earlier : List (List ℕ)) → Clean (knownAt (under (kindName q)) earlier x)
-        → sum unit (knownAt (under (kindName q)) earlier x) + roomOf q (alsoNamed (under (kindName q)) earlier x) ≤ roomOf q earlier
+    few-at : (x : Node) (q : List ℕ) (earlier : List (List ℕ)) → Clean (knownAt (under q) earlier x)
+        → sum unit (knownAt (under q) earlier x) + roomOf q (alsoNamed (under q) earlier x) ≤ roomOf q earlier
     few-at (node p n l i) q earlier h =
-        by-cases (oneOf (under (kindName q) .carried) n)
+        by-cases (oneOf (under q .carried) n)
         (λ c.
         let g = clean-first (knownOf q earlier p n l i) (knownIn (under n) [] i) (rw c at h) in
-        let m = carried-name q n c in
-        let u : kindAmong kinds n ≡ kindUnder q n = ap (kindAmong kinds) (sym m) ∙ kind-back (kindUnder q n) (carried-carried q n c) in
-        let a : sum unit (knownIn (under n) [] i) ≤ room load (under n .times) (under n .carried) [] =
-        rw m at (few-in i (kindUnder q n) [] (rw m (g .1))) in
-        let b : room load (under n .times) (under n .carried) [] ≡ most unit 8 (kindUnder q n) = rw m at (room-is (kindUnder q n)) in
+        let a = few-in i n [] (g .1) in
+        let b = room-is n in
         let r =
-        room-less load (under (kindName q) .carried) n earlier c (under (kindName q) .times) (under (kindName q) .name)
-        (under (kindName q) .barred) p l i (clean-few (knownOf q earlier p n l i) (g .0)) in
-        let v : most unit 8 (kindAmong kinds n) ≡ most unit 8 (kindUnder q n) = ap (most unit 8) u in
-        rw c (omega (arith, a, b, r, v)))
-        (λ c. by-cases (oneOf (under (kindName q) .barred) n)
+        room-less load (under q .carried) n earlier c (under q .times) (under q .name) (under q .barred) p l i
+        (clean-few (knownOf q earlier p n l i) (g .0)) in
+        rw c (omega (arith, a, b, r)))
+        (λ c. by-cases (oneOf (under q .barred) n)
         (λ b. absurd (true≢false (sym b ∙ clean-barred (knownOf q earlier p n l i)
         ((clean-first (knownOf q earlier p n l i) (knownIn (under n) [] i) (rw (c, b) at h)) .0))))
         (λ b. rw (c, b) (omega arith)))
 
-  -- in an element of a kind, and in the whole document
-  pub few-inside : (i : Items) (q : Kind) → Clean (knownIn (under (kindName q)) [] i)
-      → sum unit (knownIn (under (kindName q)) [] i) ≤ most unit 8 q
+  -- in an element, and in the whole document
+  pub few-inside : (i : Items) (q : List ℕ) → Clean (knownIn (under q) [] i) → sum unit (knownIn (under q) [] i) ≤ most unit 8 q
   few-inside i q h = let a = few-in i q [] h in let b = room-is q in omega (arith, a, b)
 
-  pub few-known : (x : Node) → Clean (knownElements x) → sum unit (knownElements x) ≤ most unit 8 File
-  unfolding kindName
-  few-known x h = let a = few-at x File [] h in let b = room-is File in omega (arith, a, b)
+  pub few-known : (x : Node) → Clean (knownElements x) → sum unit (knownElements x) ≤ most unit 8 []
+  few-known x h = let a = few-at x [] [] h in let b = room-is [] in omega (arith, a, b)
 
--- ---- each counts 1
-sum-length : (ks : List Known) → sum (λ n. 1) ks ≡ length ks
-unfolding sum
-sum-length [] = refl
-sum-length (k ∷ ks) = let h = sum-length ks in omega (arith, h)
+-- ---- each counts its words
+judged-long : (rs : List Rule) (g : Gathered) (a : Attribute) → length (g .values) ≡ 25 → length (judged rs g a .values) ≡ 25
+unfolding judged
+judged-long rs g a e =
+    by-cases (knows rs (a .name))
+    (λ t. by-cases (hasBit (g .has) (attributeOf (a .name))) (λ u. rw (t, u) e)
+    (λ u. rw (t, u) (length-set (g .values) (attributeOf (a .name)) (goodOf (worthBy rs a)) ∙ e)))
+    (λ t. rw t e)
 
-all-settled : Settled (λ n. 1)
-unfolding most left top parentIn parents kindAmong any kindName bytes same
-all-settled = everywhere (most (λ n. 1) 9) (most (λ n. 1) 8) refl
+values-long : (rs : List Rule) (l : List Attribute) (g : Gathered) → length (g .values) ≡ 25 → length (gatheredList rs l g .values) ≡ 25
+unfolding gatheredList
+values-long rs [] g e = e
+values-long rs (a ∷ l) g e = values-long rs l (judged rs g a) (judged-long rs g a e)
 
-pub few : (x : Node) → Clean (knownElements x) → length (knownElements x) ≤ 382
-unfolding most left top parentIn parents kindAmong any kindName bytes same
+all-long : (k : Known) → length (gatheredOf k .values) ≡ 25
+unfolding nothingGathered
+all-long k = values-long (rulesOf (k .name)) (k .attributes) nothingGathered refl
+
+abbrev size : List ℕ → ℕ
+size n = 3 + cond (isRuled n) 27 0
+
+row-is : (k : Known) → length (entryOf k .row) ≡ cond (isRuled (k .name)) 27 0
+row-is k = by-cases (isRuled (k .name)) (λ t. rw t (omega (arith, all-long k))) (λ t. rw t)
+
+pub kept-formed : (k : Known) → kindName (kindOf (k .name)) ≡ k .name → Formed (entryOf k)
+unfolding rowSize
+kept-formed k e = rw e (row-is k)
+
+sum-size : (ks : List Known) → sum size ks ≡ length (written (map entryOf ks))
+unfolding sum gathered
+sum-size [] = refl
+sum-size (k ∷ ks) =
+    let h = sum-size ks in
+    let r = row-is k in
+    let l = length-append (entryOf k .row) (written (map entryOf ks)) in
+    omega (arith, h, r, l)
+
+pub few : (x : Node) → Clean (knownElements x) → length (written (map entryOf (knownElements x))) ≤ 3468
+unfolding most left top parentIn parents isRuled rulesIn elements any bytes same
 few x h =
-    let a = few-known (λ n. 1) all-settled x h in
-    let b = sum-length (knownElements x) in
+    let a = few-known size refl x h in
+    let b = sum-size (knownElements x) in
     omega (arith, a, b)

@@ -20,10 +20,9 @@ use Rattle.walk.proofs.Bounds.{item-over, item-from}
 use Rattle.walk.proofs.Turns as walks
 use Rattle.walk.proofs.WalkLaws.{BodyTold, content-law, item-law, skip-law, text-law, element-deep}
 use Rattle.walk.proofs.Strays.{stray-start, stray-blank, stray-found}
-use Rattle.schema.specs.declared.Kind.{Kind}
 use Rattle.document.specs.declared.Inside.{Inside}
 use Rattle.document.specs.declared.Seen.{Seen}
-use Rattle.document.specs.DocumentCode.{FoundSoFar, noneSeen, marked, isOver, closedWalk, childAt, visitBody, visitFrom, found, Ready, InsideIs}
+use Rattle.document.specs.DocumentCode.{FoundSoFar, noneSeen, marked, isOver, closedWalk, childAt, visitBody, visitFrom, found, Sound, Ready, InsideIs}
 use Rattle.document.proofs.Turns.{VisitTurn, on-text, on-remark, on-child, on-close, inside-open, inside-empty}
 
 -- ---- the element that is visited
@@ -39,7 +38,7 @@ ready-inside f d i i′ ms ms′ z p l =
     let e : suc (d - 1) ≡ d = omega arith in
     rw (e, p) (record { room = l ∙ z .room; short = z .short; shallow = z .shallow; node = z .node; end = z .end; stands = z .stands })
 
-pub inside-moved : (f : List ℕ) (left : ℕ) (k : Kind) (r : FoundSoFar) (v : Inside) (ms : List ℕ) (i i′ : ℕ) → i ≡ i′
+pub inside-moved : (f : List ℕ) (left : ℕ) (k : ℕ) (r : FoundSoFar) (v : Inside) (ms : List ℕ) (i i′ : ℕ) → i ≡ i′
     → InsideIs f i (visitBody (visitFrom f left) f k r (contentAt f i)) v ms
     → InsideIs f i′ (visitBody (visitFrom f left) f k r (contentAt f i′)) v ms
 inside-moved f left k r v ms i i′ e x = subst (λ (a : ℕ). InsideIs f a (visitBody (visitFrom f left) f k r (contentAt f a)) v ms) e x
@@ -57,7 +56,7 @@ empty-told f d i (node p n l k) e y h o q =
 
 -- the loop's invariant: from here the answer is the whole one, the element goes on to its end, and the text from here on is stray, or the
 -- flag is set, if the whole text is
-pub record Inner (f : List ℕ) (left i : ℕ) (q : Kind) (j : ℕ) (s : Seen) (r : FoundSoFar) (b : Bool) (whole : FoundSoFar) : Type 0 where
+pub record Inner (f : List ℕ) (left i : ℕ) (q : ℕ) (j : ℕ) (s : Seen) (r : FoundSoFar) (b : Bool) (whole : FoundSoFar) : Type 0 where
   pub turn : VisitTurn f left q j s r whole
   pub items : Items
   pub stands : ContentStands f left j items (skipped f i)
@@ -67,7 +66,7 @@ module _ (f : List ℕ) (left i : ℕ) (ms : List ℕ) (z : Ready f (suc left) i
   end-is : skipped f i ≡ z .end
   end-is = skip-law f (suc left) i (z .node) (z .end) (z .stands) (z .shallow)
 
-  pub inner-start : (o j : ℕ) (k : Kind) (s : Seen) (r : FoundSoFar) → contentAt f i ≡ Body.Open o → j ≡ o → s ≡ noneSeen
+  pub inner-start : (o j : ℕ) (k : ℕ) (s : Seen) (r : FoundSoFar) → contentAt f i ≡ Body.Open o → j ≡ o → s ≡ noneSeen
       → Inner f left i k j s r false (visitBody (visitFrom f left) f k r (contentAt f i))
   unfolding innerStart
   inner-start o j k s r e p y =
@@ -81,15 +80,16 @@ module _ (f : List ℕ) (left i : ℕ) (ms : List ℕ) (z : Ready f (suc left) i
       }
 
   -- an element without content
-  pub empty-leaves : (o : ℕ) (k : Kind) (s : Seen) (r : FoundSoFar) (v : Inside) (ms′ : List ℕ) → Body.Empty o ≡ contentAt f i
-      → s ≡ noneSeen → found (v .walk) ms′ ≡ closedWalk r k s → v .walk .at ≡ o → v .stray ≡ false
+  pub empty-leaves : (o : ℕ) (k : ℕ) (s : Seen) (r : FoundSoFar) (v : Inside) (ms′ : List ℕ) → Body.Empty o ≡ contentAt f i
+      → s ≡ noneSeen → found (v .walk) ms′ ≡ closedWalk r k s → v .walk .at ≡ o → v .stray ≡ false → Sound (v .walk .end) ms′
       → InsideIs f i (visitBody (visitFrom f left) f k r (contentAt f i)) v ms′
-  empty-leaves o k s r v ms′ e y w g b =
+  empty-leaves o k s r v ms′ e y w g b x =
       let t = empty-told f left i (z .node) (z .end) (z .stands) (z .shallow) o e in
       record {
         walks = inside-empty f i left k r (Body.Empty o) e o s (found (v .walk) ms′) refl y w;
         ends = g ∙ (t .0 ∙ sym end-is);
         strays = b ∙ t .1;
+        sound = x;
       }
 
   pub broken-none : Body.Broken ≡ contentAt f i → ⊥
@@ -109,7 +109,7 @@ or-none true = refl
 or-none false = refl
 
 -- the steps of the loop, by what stands next
-module _ (f : List ℕ) (left i : ℕ) (q : Kind) (j : ℕ) (s : Seen) (r : FoundSoFar) (b : Bool) (whole : FoundSoFar)
+module _ (f : List ℕ) (left i : ℕ) (q : ℕ) (j : ℕ) (s : Seen) (r : FoundSoFar) (b : Bool) (whole : FoundSoFar)
     (z : Inner f left i q j s r b whole) where
   pub inner-over : length f ≤ j → ⊥
   inner-over h = item-law f left j (z .items) (skipped f i) (z .stands) Item.Broken (sym (item-over f j h))
@@ -151,7 +151,7 @@ module _ (f : List ℕ) (left i : ℕ) (q : Kind) (j : ℕ) (s : Seen) (r : Foun
         record { room = l ∙ y .room; short = y .short; shallow = omega arith; node = t .0; end = t .2; stands = t .4 }
 
     -- c is the child's kind, o whether it is one too many, v what its visit gave, m the marks then, k behind it
-    pub inner-child : suc left ≤ 8 → (c : Kind) (o : Bool) (v : FoundSoFar) (m : Seen) (k : ℕ) → Item.Child ≡ itemAt f j → c ≡ childAt f j q
+    pub inner-child : suc left ≤ 8 → (c : ℕ) (o : Bool) (v : FoundSoFar) (m : Seen) (k : ℕ) → Item.Child ≡ itemAt f j → c ≡ childAt f j q
         → o ≡ isOver q c s → v ≡ visitFrom f left j c o r → m ≡ marked s c → k ≡ skipped f j → Inner f left i q k m v b whole
     inner-child y c o v m k p x₁ x₂ x₃ x₄ x₅ =
         let t = item-law f left j (z .items) (skipped f i) (z .stands) Item.Child p in
@@ -166,12 +166,13 @@ module _ (f : List ℕ) (left i : ℕ) (q : Kind) (j : ℕ) (s : Seen) (r : Foun
 
     -- at the end tag, behind which k is
     pub inner-leaves : (k : ℕ) (v : Inside) (ms : List ℕ) (r′ : FoundSoFar) → Item.Close k ≡ itemAt f j
-        → found (v .walk) ms ≡ closedWalk r q s → v .walk .at ≡ k → v .stray ≡ b → whole ≡ r′ → InsideIs f i r′ v ms
+        → found (v .walk) ms ≡ closedWalk r q s → v .walk .at ≡ k → v .stray ≡ b → Sound (v .walk .end) ms → whole ≡ r′ → InsideIs f i r′ v ms
     unfolding stray
-    inner-leaves k v ms r′ p w g y x =
+    inner-leaves k v ms r′ p w g y z₂ x =
         let t = item-law f left j (z .items) (skipped f i) (z .stands) (Item.Close k) p in
         record {
           walks = on-close f left q j s r whole (z .turn) h k (found (v .walk) ms) p w ∙ x;
           ends = g ∙ t .1;
           strays = y ∙ (or-none b ∙ walks.on-close (texting f) f flagged j (stray (textAt f i)) (z .strays) k h p);
+          sound = z₂;
         }

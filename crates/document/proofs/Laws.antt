@@ -1,16 +1,16 @@
 -- The index of a well-shaped file: its first fault, or all its known elements. The answer of `index` is the only one of its contract.
-use Prim.Native.Nat.{ℕ, suc, _+_, _-_, _≤_, _<_}
+use Prim.Native.Nat.{ℕ, suc, _+_, _≤_}
 use native.Mathlib.Omega.{arith}
 use mathlib.Core.Path.{_≡_, refl, sym, ap, _∙_}
 use mathlib.Core.List.{List, [], _∷_, _++_, map, map-append, append-assoc, append-nil}
 use mathlib.Core.Option.{Option, none, some}
 use mathlib.Core.Bool.{true, false}
-use lib.Dec.{eqb, ltb}
-use lib.ListN.{length, getD, set, replicate, length-map, length-append}
-use lib.Seq.{set-at}
-use borrow.Author.Tests.{eq-eqb, ne-eqb, lt-ltb}
+use lib.Dec.{eqb, leb}
+use lib.ListN.{length, getD, length-append}
+use borrow.Author.Tests.{eq-eqb, ne-eqb, le-leb}
 use Rattle.text.specs.Texts.{bytes, same}
 use Rattle.lists.proofs.Cases.{by-cases}
+use Rattle.lists.proofs.BitLaws.{bit-none}
 use Rattle.shape.specs.declared.Shape.{Shape}
 use Rattle.shape.specs.declared.Shape.the-variants.{Whole, TooLong, Broken}
 use Rattle.shape.specs.Shape.{Attribute, Node, node, Items, WellShaped, Shaped, shapeRefusal}
@@ -19,18 +19,15 @@ use Rattle.shape.proofs.OneAnswer.{one-answer}
 use Rattle.walk.specs.WalkCode as walk
 use Rattle.walk.specs.StandsCode.{ElementAt}
 use Rattle.walk.proofs.WalkLaws.{root-law, element-law}
-use Rattle.schema.specs.declared.Kind.{Kind}
-use Rattle.schema.specs.declared.Kind.the-variants.{File, Unknown}
 use Rattle.schema.specs.Schema.{oneOf, under, parentIn, parents}
-use Rattle.schema.specs.SchemaCode.{kindName, kinds, kindAmong, kindUnder, orderOf, isCarried}
-use Rattle.schema.proofs.Every.{everywhere}
-use Rattle.schema.proofs.Laws.{carried-carried, unknown-kind}
+use Rattle.schema.specs.SchemaCode.{names, nameIn, kindName, isCarried}
+use Rattle.schema.proofs.Laws.{kind-carried}
 use Rattle.file_rules.specs.Element.{Known, Fault, _at_if_, ownFaults}
 use Rattle.element.specs.ElementCode.{firstNumber}
 use Rattle.element.proofs.Laws.{fault-place, no-fault}
-use Rattle.document.specs.declared.Index.{Index}
+use Rattle.document.specs.EntriesCode.{Entry, entryOf, written}
 use Rattle.file_rules.specs.Document.{knownElements, knownIn, knownAt, lacks, elementFaults}
-use Rattle.document.specs.DocumentCode.{absorbed, absorb, entered, refusedIndex, FoundSoFar, empty, noEntry, entryOf, indexOf, noneSeen, isOver, childAt, visitFrom, noneFound, indexAt, indexed, Indexes}
+use Rattle.document.specs.DocumentCode.{Index, absorbed, absorb, entered, refusedIndex, FoundSoFar, empty, indexOf, noneSeen, isOver, childAt, visitFrom, noneFound, indexAt, indexed, Indexes}
 use Rattle.document.proofs.Absorbs.{absorb-still, absorb-enter, absorb-refuse}
 use Rattle.document.proofs.Seens.{seen-none}
 use Rattle.document.proofs.Visits.{Agrees, child-kind, visits}
@@ -38,30 +35,32 @@ use Rattle.document.proofs.Few.{Clean, clean-first, few}
 use Rattle.lists.specs.Lists.{any, gathered}
 
 -- ---- the fold, if there is no fault
-pub enter-one : (done : List Known) (k : Known) → length done < 382
-    → entered (indexOf done) (kindAmong kinds (k .name)) (k .place) ≡ indexOf (done ++ (k ∷ []))
+pub enter-one : (done : List Known) (k : Known) → length (written (map entryOf done)) ≤ 3468
+    → entered (indexOf done) (entryOf k) ≡ indexOf (done ++ (k ∷ []))
 unfolding entered indexOf
-enter-one done k h =
-    let e : 382 - length done ≡ suc (382 - length (done ++ (k ∷ []))) = let g = length-append done (k ∷ []) in omega (arith, g) in
-    let c : length done + 1 ≡ length (done ++ (k ∷ [])) = sym (length-append done (k ∷ [])) in
-    let r = replicate (382 - length (done ++ (k ∷ []))) noEntry in
-    let s : set (map entryOf done ++ (noEntry ∷ r)) (length done) (entryOf k) ≡ map entryOf done
-    ++ (entryOf k ∷ r) = set-at (map entryOf done) noEntry r (entryOf k) (length done) (length-map done entryOf) in
-    let m : map entryOf done ++ (entryOf k ∷ r) ≡ map entryOf (done ++ (k ∷ []))
-    ++ r = sym (rw (map-append entryOf done (k ∷ [])) (append-assoc (map entryOf done) (entryOf k ∷ []) r)) in
-    rw (lt-ltb (length done) 382 h, e, s, m, c)
+enter-one done k h = rw (le-leb (length (written (map entryOf done))) 3468 h, map-append entryOf done (k ∷ []))
 
-enter-first : (done : List Known) (k : Known) → ownFaults k ≡ []
-    → absorbed k (indexOf done) ≡ entered (indexOf done) (kindAmong kinds (k .name)) (k .place)
+enter-first : (done : List Known) (k : Known) → ownFaults k ≡ [] → absorbed k (indexOf done) ≡ entered (indexOf done) (entryOf k)
 unfolding indexOf firstNumber
 enter-first done k h = absorb-enter k (indexOf done) refl (ap firstNumber h)
 
-pub absorb-all : (done ks : List Known) → Clean ks → length (done ++ ks) ≤ 382 → absorb ks (indexOf done) ≡ indexOf (done ++ ks)
+written-some : (done ks : List Known)
+    → length (written (map entryOf (done ++ ks))) ≡ length (written (map entryOf done)) + length (written (map entryOf ks))
+unfolding gathered
+written-some [] ks = omega arith
+written-some (d ∷ done) ks =
+    let h = written-some done ks in
+    let a = length-append (entryOf d .row) (written (map entryOf (done ++ ks))) in
+    let b = length-append (entryOf d .row) (written (map entryOf done)) in
+    omega (arith, h, a, b)
+
+pub absorb-all : (done ks : List Known) → Clean ks → length (written (map entryOf (done ++ ks))) ≤ 3468
+    → absorb ks (indexOf done) ≡ indexOf (done ++ ks)
 unfolding absorb
 absorb-all done [] c h = ap indexOf (sym (append-nil done))
 absorb-all done (k ∷ ks) c h =
     let g = clean-first k ks c in
-    let n : length done + length (k ∷ ks) ≤ 382 = rw (length-append done (k ∷ ks)) at h in
+    let n = written-some done (k ∷ ks) in
     let a : (done ++ (k ∷ [])) ++ ks ≡ done ++ (k ∷ ks) = append-assoc done (k ∷ []) ks in
     ap (absorb ks) (enter-first done k (g .0) ∙ enter-one done k (omega (arith, n)))
     ∙ (absorb-all (done ++ (k ∷ [])) ks (g .1) (rw a h) ∙ ap indexOf a)
@@ -70,7 +69,7 @@ index-number : (ks : List Known) → indexOf ks .fault .number ≡ 0
 unfolding indexOf
 index-number ks = refl
 
-clean-index : (ks : List Known) → Clean ks → length ks ≤ 382 → absorb ks empty ≡ indexOf ks
+clean-index : (ks : List Known) → Clean ks → length (written (map entryOf ks)) ≤ 3468 → absorb ks empty ≡ indexOf ks
 unfolding indexOf
 clean-index ks c h = absorb-all [] ks c h
 
@@ -83,9 +82,9 @@ Settles (a ∷ l) ks x = x ≡ refusedIndex (a .number) (a .place)
 head-of : {X : Type 0} {a b : X} {l m : List X} → a ∷ l ≡ b ∷ m → a ≡ b
 head-of {a = a} e = ap (λ l. getD l 0 a) e
 
-entered-number : (x : Index) (k : Kind) (p : ℕ) → entered x k p .fault .number ≡ x .fault .number
+entered-number : (x : Index) (e : Entry) → entered x e .fault .number ≡ x .fault .number
 unfolding entered
-entered-number x k p = by-cases (ltb (x .count) 382) (λ t. rw t) (λ t. rw t)
+entered-number x e = by-cases (leb (length (written (x .entries))) 3468) (λ t. rw t) (λ t. rw t)
 
 absorb-at : (k : Known) (ks : List Known) (x : Index) → x .fault .number ≡ 0 → (a : Fault) (l fs : List Fault) → ownFaults k ≡ fs
     → fs ++ gathered ownFaults ks ≡ a ∷ l
@@ -95,7 +94,7 @@ unfolding firstNumber
 absorb-at k ks x z a l [] e g rec =
     let h : firstNumber (ownFaults k) ≡ 0 = ap firstNumber e in
     ap (absorb ks) (absorb-enter k x (eq-eqb (x .fault .number) 0 z) h)
-    ∙ rec (entered x (kindAmong kinds (k .name)) (k .place)) (entered-number x (kindAmong kinds (k .name)) (k .place) ∙ z) a l g
+    ∙ rec (entered x (entryOf k)) (entered-number x (entryOf k) ∙ z) a l g
 absorb-at k ks x z a l (b ∷ fs) e g rec =
     let h : firstNumber (ownFaults k) ≡ b .number = ap firstNumber e in
     let w : b .number ≡ 0 → ⊥ = λ y. absurd (omega (arith, ap length (sym e ∙ no-fault k (h ∙ y)))) in
@@ -125,7 +124,7 @@ fault-number (k ∷ ks) a l g z = number-at k ks a l (ownFaults k) refl g (fault
 
 -- ---- the answer, for what the visit of the root gave
 module _ (i : ℕ) (ks : List Known) (r : FoundSoFar) (s : Agrees ks r noneFound) where
-  settled : (fs : List Fault) → gathered ownFaults ks ≡ fs → (Clean ks → length ks ≤ 382) → (gs : List Fault)
+  settled : (fs : List Fault) → gathered ownFaults ks ≡ fs → (Clean ks → length (written (map entryOf ks)) ≤ 3468) → (gs : List Fault)
       → gs ≡ fs ++ 8 at i if any lacks ks → Settles gs ks (indexAt i r)
   unfolding indexAt
   settled (a ∷ l) g h gs e =
@@ -140,19 +139,18 @@ module _ (i : ℕ) (ks : List Known) (r : FoundSoFar) (s : Agrees ks r noneFound
       (λ b. rw (e, eq-eqb (r .index .fault .number) 0 z, t, b) x)
 
 -- ---- a well-shaped file
-over-first : (k : Kind) → isOver File k noneSeen ≡ false
-unfolding isOver parentIn parents kindName orderOf bytes same
-over-first = everywhere (λ k. isOver File k noneSeen) (λ k. false) refl
+over-first : (k : ℕ) → isOver 0 k noneSeen ≡ false
+unfolding isOver parentIn parents names nameIn bytes same
+over-first k = bit-none k
 
 module _ (f : List ℕ) (short : length f ≤ 32768) (x : Node) (e : ℕ) (y : ElementAt f 8 (walk.rootAt f) x e) where
-  abbrev root-kind : Kind
-  root-kind = childAt f (walk.rootAt f) File
+  abbrev root-kind : ℕ
+  root-kind = childAt f (walk.rootAt f) 0
 
   root-visit : Agrees (knownElements x) (visitFrom f 8 (walk.rootAt f) root-kind false noneFound) noneFound
-  unfolding kindName
+  unfolding names nameIn bytes
   root-visit =
-      rw (over-first (childAt f (walk.rootAt f) File)) at
-      (visits f short 8 (omega arith) (walk.rootAt f) x e y File [] noneSeen (seen-none File) noneFound)
+      rw (over-first root-kind) at (visits f short 8 (omega arith) (walk.rootAt f) x e y 0 [] noneSeen (seen-none 0) noneFound)
 
 module _ (f : List ℕ) (short : length f ≤ 32768) (p : ℕ) (n : List ℕ) (l : List Attribute) (t : Items) (e : ℕ)
     (y : ElementAt f 8 (walk.rootAt f) (node p n l t) e) where
@@ -162,33 +160,31 @@ module _ (f : List ℕ) (short : length f ≤ 32768) (p : ℕ) (n : List ℕ) (l
   root-place : p ≡ walk.rootAt f
   root-place = (element-law f 7 (walk.rootAt f) X e y) .0
 
-  root-is : childAt f (walk.rootAt f) File ≡ kindUnder File n
-  root-is = child-kind f 8 (walk.rootAt f) X e y File
+  root-carried : isCarried (kindName (childAt f (walk.rootAt f) 0)) ≡ oneOf (under [] .carried) n
+  unfolding names nameIn bytes
+  root-carried = ap (λ (k : ℕ). isCarried (kindName k)) (child-kind f 8 (walk.rootAt f) X e y 0) ∙ kind-carried 0 n
 
   -- the root is KVASER
-  root-known : oneOf (under (kindName File) .carried) n ≡ true → Settles (elementFaults X) (knownElements X) (indexed f)
-  unfolding elementFaults indexed kindName knownAt
+  root-known : oneOf (under [] .carried) n ≡ true → Settles (elementFaults X) (knownElements X) (indexed f)
+  unfolding elementFaults indexed knownAt
   root-known c =
-      let k : isCarried (childAt f (walk.rootAt f) File) ≡ true = ap isCarried root-is ∙ carried-carried File n c in
       let z : eqb (length (knownElements X)) 0
       ≡ false = rw c (ne-eqb (suc (length (knownIn (under n) [] t))) 0 (λ g. absurd (omega (arith, g)))) in
-      rw k
+      rw (root-carried ∙ c)
       (settled (walk.rootAt f) (knownElements X) (visitFrom f 8 (walk.rootAt f) (root-kind f short X e y) false noneFound)
       (root-visit f short X e y)
       (gathered ownFaults (knownElements X)) refl (few X) (elementFaults X) (rw (z, root-place) refl))
 
   -- it is not
-  root-other : oneOf (under (kindName File) .carried) n ≡ false → Settles (elementFaults X) (knownElements X) (indexed f)
-  unfolding elementFaults indexed kindName knownAt parentIn parents any bytes same isCarried
-  root-other c =
-      let k : childAt f (walk.rootAt f) File ≡ Unknown = root-is ∙ unknown-kind File n c refl in
-      rw (k, c, root-place) refl
+  root-other : oneOf (under [] .carried) n ≡ false → Settles (elementFaults X) (knownElements X) (indexed f)
+  unfolding elementFaults indexed knownAt parentIn parents any bytes same
+  root-other c = rw (root-carried ∙ c, c, root-place) refl
 
 -- the index is what the file's faults say, and else its known elements
 pub index-law : (f : List ℕ) (x : Node) → length f ≤ 32768 → WellShaped f x → Settles (elementFaults x) (knownElements x) (indexed f)
 index-law f (node p n l t) short w =
     let r = root-law f (node p n l t) w in
-    by-cases (oneOf (under (kindName File) .carried) n) (root-known f short p n l t (r .0) (r .1))
+    by-cases (oneOf (under [] .carried) n) (root-known f short p n l t (r .0) (r .1))
     (root-other f short p n l t (r .0) (r .1))
 
 -- ---- the contract of `read_index`
@@ -197,15 +193,15 @@ indexes-by : (f : List ℕ) (x : Node) → length f ≤ 32768 → WellShaped f x
 indexes-by f x short w [] e i s = rw s (Indexes.faultless x short w e)
 indexes-by f x short w (a ∷ l) e i s = rw s (Indexes.faulty x a l short w e)
 
-pub indexes-whole : (f : List ℕ) (i : Index) → Shaped f Whole → i ≡ indexed f → Indexes f i
-indexes-whole f i s e =
-    rw e (indexes-by f (s .1 .0) (s .0) (s .1 .1) (elementFaults (s .1 .0)) refl (indexed f) (index-law f (s .1 .0) (s .0) (s .1 .1)))
+pub indexes-whole : (f : List ℕ) → Shaped f Whole → Indexes f (indexed f)
+indexes-whole f s =
+    (indexes-by f (s .1 .0) (s .0) (s .1 .1) (elementFaults (s .1 .0)) refl (indexed f) (index-law f (s .1 .0) (s .0) (s .1 .1)))
 
-pub indexes-long : (f : List ℕ) (i : Index) → Shaped f TooLong → i ≡ refusedIndex 1 32768 → Indexes f i
-indexes-long f i s e = rw e (Indexes.shapeless TooLong 1 32768 s refl)
+pub indexes-long : (f : List ℕ) → Shaped f TooLong → Indexes f (refusedIndex 1 32768)
+indexes-long f s = Indexes.shapeless TooLong 1 32768 s refl
 
-pub indexes-broken : (f : List ℕ) (i : Index) (p : ℕ) → Shaped f (Broken p) → i ≡ refusedIndex 2 p → Indexes f i
-indexes-broken f i p s e = rw e (Indexes.shapeless (Broken p) 2 p s refl)
+pub indexes-broken : (f : List ℕ) (p : ℕ) → Shaped f (Broken p) → Indexes f (refusedIndex 2 p)
+indexes-broken f p s = Indexes.shapeless (Broken p) 2 p s refl
 
 -- ---- it determines the index
 abbrev unsome : ℕ × ℕ → Option (ℕ × ℕ) → ℕ × ℕ

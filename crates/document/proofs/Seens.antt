@@ -1,30 +1,31 @@
 -- What an element holds so far, as the code keeps it, says what the definitions ask of the names before.
-use Prim.Native.Nat.{ℕ, zero, suc, _+_, _≤_}
+use Prim.Native.Nat.{ℕ, suc, _+_, _≤_, _<_}
 use Prim.Native.String.{String}
 use native.Mathlib.Omega.{arith}
 use mathlib.Core.Path.{_≡_, refl, sym, ap, _∙_}
 use mathlib.Core.List.{List, [], _∷_}
-use mathlib.Core.Bool.{Bool, true, false, not, cond, _&&_, _||_, true≢false}
+use mathlib.Core.Bool.{Bool, true, false, not, cond, _&&_, _||_, or-comm, true≢false}
 use lib.Dec.{leb, ltb, eqb}
-use lib.ListN.{length, getD, set, replicate}
-use borrow.Author.Tests.{lt-ltb, le-ltb, le-leb, leb-true, ne-eqb}
+use lib.ListN.{length}
+use borrow.Author.Tests.{lt-ltb, le-ltb, le-leb, leb-true, eq-eqb, ne-eqb}
 use Rattle.text.specs.Texts.{bytes, same}
+use Rattle.lists.specs.Lists.{any}
+use Rattle.lists.specs.BitsCode.{upto, hasBit}
 use Rattle.lists.proofs.Cases.{by-cases, le-or-lt}
+use Rattle.lists.proofs.Parts.{and-left, and-right, or-second, agree}
+use Rattle.lists.proofs.BitLaws.{any-upto-found, any-upto-back, bit-none, bit-with}
 use Rattle.text.proofs.Equal.{same-self, same-equal}
 use Rattle.shape.specs.Shape.{Attribute, node, Items}
-use Rattle.schema.specs.declared.Kind.{Kind}
 use Rattle.schema.specs.declared.Times.{Times}
 use Rattle.schema.specs.declared.Times.the-variants.{Once, OneTo, UpTo}
-use Rattle.schema.specs.Schema.{parents, parentIn, oneOf, under}
-use Rattle.schema.specs.SchemaCode.{kindName, kindUnder, isCarried, positionOf}
-use Rattle.schema.proofs.Every.{everywhere}
-use Rattle.schema.proofs.Laws.{carried-carried, barred-kind, unknown-kind, order-is, held-few}
+use Rattle.schema.specs.Schema.{parents, oneOf, under}
+use Rattle.schema.specs.SchemaCode.{names, nameIn, kindName, kindOf, kindUnder, isCarried, isBarred}
+use Rattle.schema.proofs.Tables.{one-back}
+use Rattle.schema.proofs.Laws.{in-every-parent, carried-held, held-listed, kind-is, kind-named, kind-low, kind-carried, known-low, kind-own}
 use Rattle.file_rules.specs.Element.{tooMany}
 use Rattle.document.specs.declared.Seen.{Seen}
 use Rattle.file_rules.specs.Document.{alsoNamed, unmet}
 use Rattle.document.specs.DocumentCode.{noneSeen, oneMore, marked, overBy, isOver, lacksBy, lacksSome}
-use Rattle.lists.specs.Lists.{any}
-use Rattle.lists.specs.FlagsCode.{lacksFirst}
 
 -- ---- the count, which stands still at 64
 unfoldable pub capped : ℕ → ℕ
@@ -46,148 +47,142 @@ capped-none : (n : ℕ) → eqb (capped n) 0 ≡ eqb n 0
 unfolding capped
 capped-none n = le-or-lt 64 n (λ g. rw (le-ltb n 64 g, ne-eqb n 0 (λ e. absurd (omega (arith, g, e))))) (λ g. rw (lt-ltb n 64 g))
 
--- ---- the flags of the names, in order
-unfoldable pub flags : ℕ → List String → List (List ℕ) → List Bool
-flags zero cs names = []
-flags (suc n) [] names = false ∷ flags n [] names
-flags (suc n) (c ∷ cs) names = any (same (bytes c)) names ∷ flags n cs names
+-- ---- the kinds of the names before
+-- names that have kinds have the same one exactly if they are the same
+kinds-same : (n m : List ℕ) → oneOf names n ≡ true → oneOf names m ≡ true → eqb (kindOf n) (kindOf m) ≡ same n m
+kinds-same n m x y =
+    by-cases (same n m)
+    (λ t. eq-eqb (kindOf n) (kindOf m) (ap kindOf (same-equal n m t)) ∙ sym t)
+    (λ t. ne-eqb (kindOf n) (kindOf m)
+    (λ e. true≢false (sym (same-self m) ∙ (ap (λ (s : List ℕ). same s m)
+    (sym (one-back m names y .1) ∙ (ap (nameIn names) (sym e) ∙ one-back n names x .1)) ∙ t))) ∙ sym t)
 
--- no two names are the same
-unfoldable pub distinct : List String → Bool
-distinct [] = true
-distinct (c ∷ cs) = not (oneOf cs (bytes c)) && distinct cs
+-- a name of a list that passes a test
+module _ (p : List ℕ → Bool) where
+  name-found : (cs : List String) → any (λ c. p (bytes c)) cs ≡ true → (n : List ℕ) × (oneOf cs n ≡ true) × (p n ≡ true)
+  unfolding any
+  name-found [] e = absurd (true≢false (sym e))
+  name-found (c ∷ cs) e =
+      by-cases (p (bytes c))
+      (λ t. (bytes c, rw (same-self (bytes c)), t))
+      (λ t. let r = name-found cs (rw t at e) in (r .0, or-second (same (r .0) (bytes c)) (oneOf cs (r .0)) (r .1), r .2))
 
-pub same-back : (s t : List ℕ) → same s t ≡ false → same t s ≡ false
-same-back s t e = by-cases (same t s) (λ g. absurd (true≢false (sym (same-self s) ∙ (ap (same s) (sym (same-equal t s g)) ∙ e)))) (λ g. g)
+  name-back : (cs : List String) (n : List ℕ) → oneOf cs n ≡ true → p n ≡ true → any (λ c. p (bytes c)) cs ≡ true
+  unfolding any
+  name-back [] n o e = absurd (true≢false (sym o))
+  name-back (c ∷ cs) n o e =
+      by-cases (same n (bytes c))
+      (λ t. rw (ap p (sym (same-equal n (bytes c) t)) ∙ e))
+      (λ t. or-second (p (bytes c)) (any (λ x. p (bytes x)) cs) (name-back cs n (rw t at o) e))
 
-flag-at : (m : ℕ) (cs : List String) (names : List (List ℕ)) (n : List ℕ) → length cs ≤ m → oneOf cs n ≡ true
-    → getD (flags m cs names) (positionOf n cs) false ≡ any (same n) names
-unfolding any flags positionOf
-flag-at zero [] names n h e = absurd (true≢false (sym e))
-flag-at (suc m) [] names n h e = absurd (true≢false (sym e))
-flag-at zero (c ∷ cs) names n h e = absurd (omega arith)
-flag-at (suc m) (c ∷ cs) names n h e =
-    by-cases (same n (bytes c))
-    (λ t. rw t (ap (λ (x : List ℕ). any (same x) names) (sym (same-equal n (bytes c) t))))
-    (λ t. let p : 1 + positionOf n cs ≡ suc (positionOf n cs) = omega arith in rw (t, p) (flag-at m cs names n (omega arith) (rw t at e)))
-
--- one name more sets its flag
-flag-apart : (m : ℕ) (cs : List String) (names : List (List ℕ)) (n : List ℕ) → oneOf cs n ≡ false
-    → flags m cs (n ∷ names) ≡ flags m cs names
-unfolding any flags
-flag-apart zero cs names n e = refl
-flag-apart (suc m) [] names n e = ap (λ (l : List Bool). false ∷ l) (flag-apart m [] names n refl)
-flag-apart (suc m) (c ∷ cs) names n e =
-    by-cases (same n (bytes c))
-    (λ t. absurd (true≢false (rw t at e)))
-    (λ t. rw (same-back n (bytes c) t) (ap (λ (l : List Bool). any (same (bytes c)) names ∷ l) (flag-apart m cs names n (rw t at e))))
-
-flag-set : (m : ℕ) (cs : List String) (names : List (List ℕ)) (n : List ℕ) → length cs ≤ m → distinct cs ≡ true → oneOf cs n ≡ true
-    → set (flags m cs names) (positionOf n cs) true ≡ flags m cs (n ∷ names)
-unfolding any flags positionOf distinct
-flag-set zero [] names n h d e = absurd (true≢false (sym e))
-flag-set (suc m) [] names n h d e = absurd (true≢false (sym e))
-flag-set zero (c ∷ cs) names n h d e = absurd (omega arith)
-flag-set (suc m) (c ∷ cs) names n h d e =
-    by-cases (oneOf cs (bytes c)) (λ y. absurd (true≢false (sym (rw y at d)))) (λ y.
-    by-cases (same n (bytes c))
-    (λ t. let q = same-equal n (bytes c) t in rw t
-    (rw q (rw (same-self (bytes c)) (ap (λ (l : List Bool). true ∷ l) (sym (flag-apart m cs names (bytes c) y))))))
-    (λ t. let p : 1 + positionOf n cs ≡ suc (positionOf n cs) = omega arith in
-    rw (t, p, same-back n (bytes c) t)
-    (ap (λ (l : List Bool). any (same (bytes c)) names ∷ l) (flag-set m cs names n (omega arith) (rw y at d) (rw t at e)))))
-
-flag-lack : (m : ℕ) (cs : List String) (names : List (List ℕ)) → length cs ≤ m
-    → lacksFirst (length cs) (flags m cs names) ≡ any (λ c. not (any (same (bytes c)) names)) cs
-unfolding any flags lacksFirst
-flag-lack m [] names h = refl
-flag-lack zero (c ∷ cs) names h = absurd (omega arith)
-flag-lack (suc m) (c ∷ cs) names h = ap (λ (b : Bool). not (any (same (bytes c)) names) || b) (flag-lack m cs names (omega arith))
-
-flag-none : (m : ℕ) (cs : List String) → flags m cs [] ≡ replicate m false
-unfolding any flags
-flag-none zero cs = refl
-flag-none (suc m) [] = ap (λ (l : List Bool). false ∷ l) (flag-none m [])
-flag-none (suc m) (c ∷ cs) = ap (λ (l : List Bool). false ∷ l) (flag-none m cs)
-
--- ---- the paper's tables: names under one parent are distinct, limits at most 64
-names-distinct : (q : Kind) → distinct (under (kindName q) .carried) ≡ true
-unfolding distinct parentIn parents any kindName bytes same
-names-distinct = everywhere (λ q. distinct (under (kindName q) .carried)) (λ q. true) refl
-
+-- ---- the paper's tables: limits are at most 64
 small : Times → Bool
 small Once = true
 small (OneTo m) = leb m 64
 small (UpTo m) = leb m 64
 
-limits-small : (q : Kind) → small (under (kindName q) .times) ≡ true
-unfolding small parentIn parents kindName bytes same
-limits-small = everywhere (λ q. small (under (kindName q) .times)) (λ q. true) refl
+limits-small : (q : List ℕ) → small (under q .times) ≡ true
+unfolding small parents
+limits-small q = in-every-parent (λ p. small (p .times)) (λ p. true) refl q refl
 
 -- ---- what was seen under the kind q, where the names before are `earlier`
-pub record SeenIs (q : Kind) (earlier : List (List ℕ)) (s : Seen) : Type 0 where
+pub record SeenIs (q : ℕ) (earlier : List (List ℕ)) (s : Seen) : Type 0 where
   pub count : s .count ≡ capped (length earlier)
-  pub names : under (kindName q) .times ≡ Once → s .names ≡ flags 5 (under (kindName q) .carried) earlier
+  pub kinds : (n : List ℕ) → oneOf (under (kindName q) .carried) n ≡ true → hasBit (s .kinds) (kindOf n) ≡ any (same n) earlier
 
-pub seen-none : (q : Kind) → SeenIs q [] noneSeen
-unfolding capped
-seen-none q = record { count = refl; names = λ o. sym (flag-none 5 (under (kindName q) .carried)) }
+pub seen-none : (q : ℕ) → SeenIs q [] noneSeen
+unfolding capped any
+seen-none q = record { count = refl; kinds = λ n c. bit-none (kindOf n) }
 
-module _ (q : Kind) (earlier : List (List ℕ)) (s : Seen) (y : SeenIs q earlier s) (n : List ℕ) where
-  -- a carried element more
-  pub seen-more : oneOf (under (kindName q) .carried) n ≡ true → SeenIs q (n ∷ earlier) (marked s (kindUnder q n))
-  unfolding marked
-  seen-more e =
-      rw (carried-carried q n e)
-      (record {
-        count = ap oneMore (y .count) ∙ capped-more (length earlier);
-        names = λ o.
-            rw (y .names o, order-is q n o e) (flag-set 5 (under (kindName q) .carried) earlier n (held-few q) (names-distinct q) e);
-      })
+module _ (q : ℕ) where
+  listed : (n : List ℕ) → oneOf (under (kindName q) .carried) n ≡ true → oneOf names n ≡ true
+  listed n c = held-listed (kindName q) n (carried-held (kindName q) n c)
 
-  -- an element more, of whatever kind
-  pub seen-on : (p : ℕ) (l : List Attribute) (i : Items)
-      → SeenIs q (alsoNamed (under (kindName q)) earlier (node p n l i)) (marked s (kindUnder q n))
-  unfolding marked isCarried
-  seen-on p l i =
-      by-cases (oneOf (under (kindName q) .carried) n) (λ e. rw e (seen-more e)) (λ e. rw e
-      (by-cases (oneOf (under (kindName q) .barred) n) (λ b. rw (barred-kind q n e b) y) (λ b. rw (unknown-kind q n e b) y)))
+  kind-of : (n : List ℕ) → oneOf (under (kindName q) .carried) n ≡ true → kindUnder q n ≡ kindOf n
+  kind-of n c = kind-is q n (carried-held (kindName q) n c)
 
-  -- it is one too many exactly if the definitions say so
-  module _ (e : oneOf (under (kindName q) .carried) n ≡ true) (p : ℕ) (l : List Attribute) (i : Items) where
-    over-by : (t : Times) → small t ≡ true → (t ≡ Once → under (kindName q) .times ≡ Once) → (a : String) (c b : List String)
-        → overBy t (kindUnder q n) s
-        ≡ tooMany
+  kind-few : (n : List ℕ) → oneOf (under (kindName q) .carried) n ≡ true → kindOf n < 64
+  kind-few n c = omega (arith, kind-low q n (carried-held (kindName q) n c), kind-of n c)
+
+  held-known : (n : List ℕ) → oneOf (under (kindName q) .carried) n ≡ true → (isCarried n || isBarred n) ≡ true
+  held-known n c = let h = carried-held (kindName q) n c in rw (sym (ap isCarried (kind-named q n h)) ∙ kind-carried q n ∙ c)
+
+  module _ (earlier : List (List ℕ)) (s : Seen) (y : SeenIs q earlier s) (n : List ℕ) where
+    -- a carried element more
+    pub seen-more : oneOf (under (kindName q) .carried) n ≡ true → SeenIs q (n ∷ earlier) (marked s (kindUnder q n))
+    unfolding marked any
+    seen-more e =
+        rw (kind-carried q n ∙ e)
         (record {
-          parent = record { name = a; carried = c; times = t; barred = b };
-          earlier = earlier;
-          place = p;
-          name = n;
-          attributes = l;
-          items = i;
+          count = ap oneMore (y .count) ∙ capped-more (length earlier);
+          kinds = λ m c.
+              rw (kind-of n e) (bit-with (s .kinds) (kindOf n) (kindOf m)
+              ∙ rw (y .kinds m c, kinds-same m n (listed m c) (listed n e)) (or-comm (any (same m) earlier) (same m n)));
         })
-    unfolding tooMany small
-    over-by Once w o a c b =
-        rw (y .names (o refl), order-is q n (o refl) e) (flag-at 5 (under (kindName q) .carried) earlier n (held-few q) e)
-    over-by (OneTo m) w o a c b = rw (y .count) (capped-test m (length earlier) (leb-true m 64 w))
-    over-by (UpTo m) w o a c b = rw (y .count) (capped-test m (length earlier) (leb-true m 64 w))
 
-    pub over-is : isOver q (kindUnder q n) s
-        ≡ tooMany (record { parent = under (kindName q); earlier = earlier; place = p; name = n; attributes = l; items = i })
-    unfolding isOver
-    over-is =
-        over-by (under (kindName q) .times) (limits-small q) (λ o. o) (under (kindName q) .name) (under (kindName q) .carried)
-        (under (kindName q) .barred)
+    -- an element more, of whatever kind
+    pub seen-on : (p : ℕ) (l : List Attribute) (i : Items)
+        → SeenIs q (alsoNamed (under (kindName q)) earlier (node p n l i)) (marked s (kindUnder q n))
+    unfolding marked
+    seen-on p l i =
+        by-cases (oneOf (under (kindName q) .carried) n) (λ e. rw e (seen-more e)) (λ e. rw (e, kind-carried q n ∙ e) y)
 
--- what lacks at the end tag
-module _ (q : Kind) (earlier : List (List ℕ)) (s : Seen) (y : SeenIs q earlier s) where
-  lack-by : (t : Times) → (t ≡ Once → under (kindName q) .times ≡ Once) → (a : String) (b : List String)
-      → lacksBy t q s ≡ unmet (record { name = a; carried = under (kindName q) .carried; times = t; barred = b }) earlier
-  unfolding unmet
-  lack-by Once o a b = rw (y .names (o refl)) (flag-lack 5 (under (kindName q) .carried) earlier (held-few q))
-  lack-by (OneTo m) o a b = rw (y .count) (capped-none (length earlier))
-  lack-by (UpTo m) o a b = refl
+    -- it is one too many exactly if the definitions say so
+    module _ (e : oneOf (under (kindName q) .carried) n ≡ true) (p : ℕ) (l : List Attribute) (i : Items) where
+      over-by : (t : Times) → small t ≡ true → (a : String) (c b : List String)
+          → overBy t (kindUnder q n) s
+          ≡ tooMany
+          (record {
+            parent = record { name = a; carried = c; times = t; barred = b };
+            earlier = earlier;
+            place = p;
+            name = n;
+            attributes = l;
+            items = i;
+          })
+      unfolding tooMany small
+      over-by Once w a c b = rw (kind-of n e) (y .kinds n e)
+      over-by (OneTo m) w a c b = rw (y .count) (capped-test m (length earlier) (leb-true m 64 w))
+      over-by (UpTo m) w a c b = rw (y .count) (capped-test m (length earlier) (leb-true m 64 w))
 
-  pub lack-is : lacksSome q s ≡ unmet (under (kindName q)) earlier
-  unfolding lacksSome
-  lack-is = lack-by (under (kindName q) .times) (λ o. o) (under (kindName q) .name) (under (kindName q) .barred)
+      pub over-is : isOver q (kindUnder q n) s
+          ≡ tooMany (record { parent = under (kindName q); earlier = earlier; place = p; name = n; attributes = l; items = i })
+      unfolding isOver
+      over-is =
+          over-by (under (kindName q) .times) (limits-small (kindName q)) (under (kindName q) .name) (under (kindName q) .carried)
+          (under (kindName q) .barred)
+
+  -- what lacks at the end tag
+  module _ (earlier : List (List ℕ)) (s : Seen) (y : SeenIs q earlier s) where
+    abbrev carried : List String
+    carried = under (kindName q) .carried
+
+    abbrev missing : ℕ → Bool
+    missing k = oneOf carried (kindName k) && not (hasBit (s .kinds) k)
+
+    kinds-lack : any missing (upto 64) ≡ any (λ c. not (any (same (bytes c)) earlier)) carried
+    kinds-lack =
+        agree (any missing (upto 64)) (any (λ c. not (any (same (bytes c)) earlier)) carried)
+        (λ t.
+        let r = any-upto-found missing 64 t in
+        let o = and-left (oneOf carried (kindName (r .0))) (not (hasBit (s .kinds) (r .0))) (r .2) in
+        let h = and-right (oneOf carried (kindName (r .0))) (not (hasBit (s .kinds) (r .0))) (r .2) in
+        let k = kind-own (r .0) (known-low (r .0) (held-known (kindName (r .0)) o)) in
+        name-back (λ n. not (any (same n) earlier)) carried (kindName (r .0)) o
+        (ap not (sym (y .kinds (kindName (r .0)) o) ∙ ap (hasBit (s .kinds)) k) ∙ h))
+        (λ t.
+        let r = name-found (λ n. not (any (same n) earlier)) carried t in
+        let b = one-back (r .0) names (listed (r .0) (r .1)) in
+        any-upto-back missing 64 (kindOf (r .0)) (kind-few (r .0) (r .1))
+        (rw (b .1, r .1, y .kinds (r .0) (r .1)) (r .2)))
+
+    lack-by : (t : Times) → (a : String) (b : List String)
+        → lacksBy t q s ≡ unmet (record { name = a; carried = carried; times = t; barred = b }) earlier
+    unfolding unmet
+    lack-by Once a b = kinds-lack
+    lack-by (OneTo m) a b = rw (y .count) (capped-none (length earlier))
+    lack-by (UpTo m) a b = refl
+
+    pub lack-is : lacksSome q s ≡ unmet (under (kindName q)) earlier
+    unfolding lacksSome
+    lack-is = lack-by (under (kindName q) .times) (under (kindName q) .name) (under (kindName q) .barred)

@@ -3,26 +3,27 @@ use Prim.Native.Nat.{ℕ, zero, suc, _-_, _<_}
 use native.Mathlib.Omega.{arith}
 use mathlib.Core.Path.{_≡_, refl, sym, ap, _∙_}
 use mathlib.Core.List.{List}
-use mathlib.Core.Bool.{Bool, true, false, not, cond, _&&_}
+use mathlib.Core.Bool.{Bool, true, false, not, cond, _&&_, _||_}
+use lib.Dec.{eqb}
 use lib.ListN.{length}
 use borrow.Author.Tests.{eq-eqb, ne-eqb, not-true, not-false}
+use Rattle.lists.proofs.Parts.{and-right}
 use Rattle.walk.specs.declared.Item.{Item}
 use Rattle.walk.specs.declared.Body.{Body}
 use Rattle.walk.specs.WalkCode.{itemAt, contentAt, skipped, rootAt, textAt, stray}
 use Rattle.walk.proofs.Bounds.{item-from, skipped-bounds}
 use Rattle.walk.proofs.Turns.{Turn, start, next, done}
-use Rattle.schema.specs.declared.Kind.{Kind}
-use Rattle.schema.specs.declared.Kind.the-variants.{File}
-use Rattle.schema.specs.SchemaCode.{isCarried}
-use Rattle.element.specs.ElementCode.{worded, ownFault, tagFault}
+use Rattle.schema.specs.SchemaCode.{kindName, kindCount, isCarried, isBarred}
+use Rattle.schema.proofs.Laws.{known-low}
+use Rattle.element.specs.declared.Gathered.{Gathered}
+use Rattle.element.specs.ElementCode.{rulesFor, gatheredAt, badText, misspelt, textNumber, worded, ownFault, tagFault}
 use Rattle.element.proofs.Wordings.{fault-some, fault-text}
-use Rattle.document.specs.declared.Index.{Index}
 use Rattle.document.specs.declared.Seen.{Seen}
 use Rattle.document.specs.declared.Walk.{Walk}
-use Rattle.document.specs.DocumentCode.{FoundSoFar, noneSeen, marked, isOver, closedWalk, childAt, isBarred, looked, faultAt, tagFaultAt, enteredFound, refusedFound, visitItems, visitBody, visitFrom, refusedIndex, noneFound, indexAt, indexed, found}
+use Rattle.document.specs.DocumentCode.{Index, FoundSoFar, entryAt, entryBy, noneSeen, marked, isOver, closedWalk, childAt, looked, firstFault, faultAt, tagFaultAt, enteredFound, refusedFound, visitItems, visitBody, visitFrom, refusedIndex, noneFound, indexAt, indexed, found}
 
 -- the steps of the loop, by what stands next
-module _ (visit : ℕ → Kind → Bool → FoundSoFar → FoundSoFar) (f : List ℕ) (q : Kind) (j : ℕ) (s : Seen) (r : FoundSoFar) where
+module _ (visit : ℕ → ℕ → Bool → FoundSoFar → FoundSoFar) (f : List ℕ) (q j : ℕ) (s : Seen) (r : FoundSoFar) where
   module _ (n : ℕ) where
     pub visit-text : (k : ℕ) → Item.Text k ≡ itemAt f j → visitItems visit f q (suc n) j s r ≡ visitItems visit f q n k s r
     unfolding visitItems
@@ -43,10 +44,10 @@ module _ (visit : ℕ → Kind → Bool → FoundSoFar → FoundSoFar) (f : List
     visit-close k e = rw (← e, visitItems)
 
 -- the loop's invariant: from here the answer is the whole one
-abbrev pub VisitTurn : List ℕ → ℕ → Kind → ℕ → Seen → FoundSoFar → FoundSoFar → Type 0
+abbrev pub VisitTurn : List ℕ → ℕ → ℕ → ℕ → Seen → FoundSoFar → FoundSoFar → Type 0
 VisitTurn f left q j s r whole = Turn (λ n m. visitItems (visitFrom f left) f q n m s r) (length f) j whole
 
-module _ (f : List ℕ) (left : ℕ) (q : Kind) (j : ℕ) (s : Seen) (r whole : FoundSoFar) (t : VisitTurn f left q j s r whole)
+module _ (f : List ℕ) (left q j : ℕ) (s : Seen) (r whole : FoundSoFar) (t : VisitTurn f left q j s r whole)
     (h : j < length f) where
   abbrev items : ℕ → ℕ → FoundSoFar
   items n m = visitItems (visitFrom f left) f q n m s r
@@ -61,7 +62,7 @@ module _ (f : List ℕ) (left : ℕ) (q : Kind) (j : ℕ) (s : Seen) (r whole : 
       (λ n. visit-remark (visitFrom f left) f q j s r n k e)
 
   -- c is the child's kind, o whether it is one too many, v what its visit gave, m the marks then, k behind it
-  pub on-child : (c : Kind) (o : Bool) (v : FoundSoFar) (m : Seen) (k : ℕ) → Item.Child ≡ itemAt f j → c ≡ childAt f j q → o ≡ isOver q c s
+  pub on-child : (c : ℕ) (o : Bool) (v : FoundSoFar) (m : Seen) (k : ℕ) → Item.Child ≡ itemAt f j → c ≡ childAt f j q → o ≡ isOver q c s
       → v ≡ visitFrom f left j c o r → m ≡ marked s c → k ≡ skipped f j → VisitTurn f left q k m v whole
   on-child c o v m k e x₁ x₂ x₃ x₄ x₅ =
       next items (length f) j whole (λ n i. visitItems (visitFrom f left) f q n i m v) k t h (rw x₅ ((skipped-bounds f j h) .0))
@@ -71,7 +72,7 @@ module _ (f : List ℕ) (left : ℕ) (q : Kind) (j : ℕ) (s : Seen) (r whole : 
   on-close k v e x = done items (length f) j whole v t h (λ n. visit-close (visitFrom f left) f q j s r n k e ∙ sym x)
 
 -- the ways through `visit`: not looked at, a fault, and inside
-module _ (f : List ℕ) (i : ℕ) (k : Kind) (o : Bool) (r : FoundSoFar) where
+module _ (f : List ℕ) (i k : ℕ) (o : Bool) (r : FoundSoFar) where
   pub visit-past : (left : ℕ) (b : Bool) → b ≡ looked r k → not b ≡ true → r ≡ visitFrom f left i k o r
   unfolding visitFrom
   visit-past zero b e t = refl
@@ -83,7 +84,7 @@ module _ (f : List ℕ) (i : ℕ) (k : Kind) (o : Bool) (r : FoundSoFar) where
     visit-fault zero h x v y = absurd (h refl)
     visit-fault (suc d) h x v y = y ∙ rw (sym e ∙ not-false b t, ← g, ne-eqb n 0 x)
 
-    pub visit-good : (left : ℕ) → (left ≡ 0 → ⊥) → n ≡ 0 → (v w : FoundSoFar) → w ≡ enteredFound r k i
+    pub visit-good : (left : ℕ) → (left ≡ 0 → ⊥) → n ≡ 0 → (v w : FoundSoFar) → w ≡ enteredFound r (entryAt f i k)
         → v ≡ visitBody (visitFrom f (left - 1)) f k w (contentAt f i) → v ≡ visitFrom f left i k o r
     unfolding visitFrom
     visit-good zero h x v w y z = absurd (h refl)
@@ -91,29 +92,55 @@ module _ (f : List ℕ) (i : ℕ) (k : Kind) (o : Bool) (r : FoundSoFar) where
         let l : suc d - 1 ≡ d = omega arith in
         z ∙ (rw (y, l) (rw (sym e ∙ not-false b t, ← g, eq-eqb n 0 x)))
 
+-- an element that is looked at has a kind
+pub looked-low : (r : FoundSoFar) (k : ℕ) (b : Bool) → b ≡ looked r k → not b ≡ false → k < kindCount
+unfolding looked
+looked-low r k b e t =
+    known-low k (and-right (eqb (r .index .fault .number) 0) (isCarried (kindName k) || isBarred (kindName k)) (sym e ∙ not-false b t))
+
+-- what the code judges is the element at i
+judged-is : (f : List ℕ) (i k : ℕ) (o t : Bool) (g : Gathered) (n : ℕ) → n ≡ firstFault k o t g → g ≡ gatheredAt (rulesFor k) f i
+    → n ≡ firstFault k o t (gatheredAt (rulesFor k) f i)
+judged-is f i k o t g n e x = e ∙ ap (firstFault k o t) x
+
+pub fault-is : (f : List ℕ) (i k : ℕ) (o t : Bool) (g : Gathered) (n : ℕ) → n ≡ firstFault k o t g → g ≡ gatheredAt (rulesFor k) f i
+    → t ≡ badText k f i → n ≡ faultAt f i k o
+fault-is f i k o t g n e x y = judged-is f i k o t g n e x ∙ ap (λ (b : Bool). firstFault k o b (gatheredAt (rulesFor k) f i)) y
+
+pub tag-fault-is : (f : List ℕ) (i k : ℕ) (o t : Bool) (g : Gathered) (n : ℕ) → n ≡ firstFault k o t g → g ≡ gatheredAt (rulesFor k) f i
+    → t ≡ misspelt k f i → n ≡ tagFaultAt f i k o
+tag-fault-is f i k o t g n e x y = judged-is f i k o t g n e x ∙ ap (λ (b : Bool). firstFault k o b (gatheredAt (rulesFor k) f i)) y
+
+-- what the code entered is what is kept of the element at i
+pub entered-is : (f : List ℕ) (i k n : ℕ) (g : Gathered) (v r : FoundSoFar) → n ≡ textNumber k f i → g ≡ gatheredAt (rulesFor k) f i
+    → v ≡ enteredFound r (entryBy k i n g) → v ≡ enteredFound r (entryAt f i k)
+unfolding entryAt
+entered-is f i k n g v r x y z =
+    z ∙ (ap (λ (m : ℕ). enteredFound r (entryBy k i m g)) x ∙ ap (λ (h : Gathered). enteredFound r (entryBy k i (textNumber k f i) h)) y)
+
 -- the fault of an element, by what its tag tells (m) and whether text that is not read is stray
-module _ (f : List ℕ) (i : ℕ) (k : Kind) (m : ℕ) where
-  fault-split : (a over : Bool) → a ≡ isBarred k → m ≡ tagFaultAt f i k over → m ≡ 0
+module _ (f : List ℕ) (i k m : ℕ) where
+  fault-split : (a over : Bool) → a ≡ isBarred (kindName k) → m ≡ tagFaultAt f i k over → m ≡ 0
       → (tagFault k f i ≡ 0) × (faultAt f i k over ≡ ownFault k f i)
-  unfolding tagFaultAt faultAt
+  unfolding firstFault tagFault ownFault
   fault-split true over a e z = absurd (omega (arith, rw (← a) at e))
   fault-split false true a e z = absurd (omega (arith, rw (← a) at e))
   fault-split false false a e z = (sym (rw (← a) at e) ∙ z, rw (← a))
 
-  fault-kept : (a over : Bool) → a ≡ isBarred k → m ≡ tagFaultAt f i k over → (m ≡ 0 → ⊥) → faultAt f i k over ≡ 0 → ⊥
-  unfolding tagFaultAt faultAt
+  fault-kept : (a over : Bool) → a ≡ isBarred (kindName k) → m ≡ tagFaultAt f i k over → (m ≡ 0 → ⊥) → faultAt f i k over ≡ 0 → ⊥
+  unfolding firstFault tagFault ownFault
   fault-kept true over a e h z = absurd (omega (arith, rw (← a) at z))
   fault-kept false true a e h z = absurd (omega (arith, rw (← a) at z))
   fault-kept false false a e h z = fault-some f i k (λ y. h (e ∙ rw (← a) y)) (rw (← a) at z)
 
   module _ (over : Bool) (e : m ≡ tagFaultAt f i k over) where
     pub tag-fault-kept : (m ≡ 0 → ⊥) → (n : ℕ) → n ≡ faultAt f i k over → n ≡ 0 → ⊥
-    tag-fault-kept h n g z = fault-kept (isBarred k) over refl e h (sym g ∙ z)
+    tag-fault-kept h n g z = fault-kept (isBarred (kindName k)) over refl e h (sym g ∙ z)
 
     module _ (z : m ≡ 0) (w b : Bool) (hw : w ≡ worded k) (hb : b ≡ stray (textAt f i)) where
       text-fault : faultAt f i k over ≡ cond (not w && b) 6 0
       text-fault =
-          let t = fault-split (isBarred k) over refl e z in
+          let t = fault-split (isBarred (kindName k)) over refl e z in
           t .1 ∙ rw (hw, hb) (fault-text f i k (t .0))
 
       pub stray-fault : not w && b ≡ true → 6 ≡ faultAt f i k over
@@ -122,13 +149,13 @@ module _ (f : List ℕ) (i : ℕ) (k : Kind) (m : ℕ) where
       pub no-fault : not w && b ≡ false → 0 ≡ faultAt f i k over
       no-fault t = sym (text-fault ∙ rw t)
 
--- behind a fault the marks tell nothing
+-- behind a fault the words tell nothing
 pub refused-same : (w : Walk) (ms ms′ : List ℕ) (n p : ℕ) → refusedFound (found w ms) n p ≡ refusedFound (found w ms′) n p
 unfolding found
 refused-same w ms ms′ n p = refl
 
 -- the ways through `visit_inside`
-module _ (f : List ℕ) (i left : ℕ) (k : Kind) (r : FoundSoFar) (b : Body) (e : b ≡ contentAt f i) where
+module _ (f : List ℕ) (i left k : ℕ) (r : FoundSoFar) (b : Body) (e : b ≡ contentAt f i) where
   abbrev whole : FoundSoFar
   whole = visitBody (visitFrom f left) f k r (contentAt f i)
 
@@ -143,8 +170,8 @@ module _ (f : List ℕ) (i left : ℕ) (k : Kind) (r : FoundSoFar) (b : Body) (e
   inside-empty o s v x y z = z ∙ (rw y (ap (visitBody (visitFrom f left) f k r) (sym x ∙ e)))
 
 -- the ways through `index_whole`
-module _ (f : List ℕ) (root : ℕ) (k : Kind) (b : Bool) (e₁ : root ≡ rootAt f) (e₂ : k ≡ childAt f root File) (e₃ : b ≡ isCarried k) where
-  root-carried : isCarried (childAt f (rootAt f) File) ≡ b
+module _ (f : List ℕ) (root k : ℕ) (b : Bool) (e₁ : root ≡ rootAt f) (e₂ : k ≡ childAt f root 0) (e₃ : b ≡ isCarried (kindName k)) where
+  root-carried : isCarried (kindName (childAt f (rootAt f) 0)) ≡ b
   root-carried = rw (e₃, e₂, e₁)
 
   pub whole-known : b ≡ true → (n v : FoundSoFar) (r : Index) → n ≡ noneFound → (i : ℕ) → i ≡ root → v ≡ visitFrom f 8 i k false n

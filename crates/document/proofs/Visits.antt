@@ -8,6 +8,7 @@ use lib.Dec.{eqb}
 use lib.ListN.{length}
 use lib.Seq.{slice}
 use borrow.Author.Tests.{ne-eqb, eqb-true, eqb-false}
+use Rattle.text.specs.Texts.{bytes, same}
 use Rattle.lists.proofs.Cases.{by-cases, le-or-lt}
 use Rattle.shape.specs.Shape.{Attribute, Node, node, Items}
 use Rattle.walk.specs.declared.Item.{Item}
@@ -16,19 +17,17 @@ use Rattle.walk.specs.WalkCode as walk
 use Rattle.walk.specs.StandsCode.{ElementAt, ContentStands, texted}
 use Rattle.walk.proofs.Bounds.{item-over}
 use Rattle.walk.proofs.WalkLaws.{element-law, element-deep, ItemTold, item-law, BodyTold, content-law, skip-law}
-use Rattle.schema.specs.declared.Kind.{Kind}
-use Rattle.schema.specs.declared.Kind.the-variants.{Unknown}
-use Rattle.schema.specs.Schema.{Parent, oneOf, under}
-use Rattle.schema.specs.SchemaCode.{kindName, kinds, kindAmong, kindUnder, isCarried}
-use Rattle.schema.proofs.Every.{everywhere}
-use Rattle.schema.proofs.Laws.{kind-back, carried-name, carried-carried, barred-kind, unknown-kind, barred-not-carried}
-use Rattle.file_rules.specs.Element.{Known, ownFaults, tooMany}
-use Rattle.element.specs.ElementCode.{firstNumber}
-use Rattle.element.proofs.Laws.{fault-law, over-law, barred-law}
-use Rattle.document.specs.declared.Index.{Index}
+use Rattle.schema.specs.Schema.{Parent, oneOf, under, rulesOf}
+use Rattle.schema.specs.SchemaCode.{kindName, kindUnder, isCarried, isBarred}
+use Rattle.schema.proofs.Laws.{carried-held, carried-not-barred, barred-not-carried, kind-is, kind-named, kind-carried, kind-barred}
+use Rattle.file_rules.specs.Element.{Known, goodOf, channelOf, ownFaults, tooMany}
+use Rattle.element.specs.declared.Gathered.{Gathered}
+use Rattle.element.specs.ElementCode.{rulesFor, nothingGathered, gatheredAt, gatheredList, textNumber, ownFault, firstNumber}
+use Rattle.element.proofs.Laws.{fault-law, over-law, barred-law, gather-law, channel-law}
+use Rattle.document.specs.EntriesCode.{rowFrom, gatheredOf, entryOf}
 use Rattle.document.specs.declared.Seen.{Seen}
 use Rattle.file_rules.specs.Document.{alsoNamed, held, knownIn, knownAt, unmet, lacks}
-use Rattle.document.specs.DocumentCode.{absorbed, absorb, entered, refusedIndex, FoundSoFar, enteredFound, refusedFound, noneSeen, marked, isOver, closedWalk, childAt, isBarred, looked, faultAt, visitItems, visitBody, visitFrom}
+use Rattle.document.specs.DocumentCode.{Index, absorbed, absorb, entered, entryAt, refusedIndex, FoundSoFar, enteredFound, refusedFound, noneSeen, marked, isOver, closedWalk, childAt, looked, firstFault, faultAt, visitItems, visitBody, visitFrom}
 use Rattle.document.proofs.Absorbs.{absorb-append, absorb-still, absorb-none, absorb-enter, any-append}
 use Rattle.document.proofs.Seens.{SeenIs, seen-none, seen-on, over-is, lack-is}
 use Rattle.document.proofs.Turns.{visit-text, visit-remark, visit-child, visit-close}
@@ -72,24 +71,17 @@ record AgreesIn (ks : List Known) (u : Bool) (v r : FoundSoFar) : Type 0 where
 abbrev pub nameIn : Node → List ℕ
 nameIn (node p n l i) = n
 
-abbrev pub knownOf : Kind → List (List ℕ) → ℕ → List ℕ → List Attribute → Items → Known
+abbrev pub knownOf : ℕ → List (List ℕ) → ℕ → List ℕ → List Attribute → Items → Known
 knownOf q earlier p n l i = record { parent = under (kindName q); earlier = earlier; place = p; name = n; attributes = l; items = i }
-
-carried-apart : (k : Kind) → cond (isCarried k) (isBarred k) false ≡ false
-unfolding isCarried isBarred
-carried-apart = everywhere (λ k. cond (isCarried k) (isBarred k) false) (λ k. false) refl
-
-carried-not-barred : (k : Kind) → isCarried k ≡ true → isBarred k ≡ false
-carried-not-barred k c = rw c at (carried-apart k)
 
 module _ (f : List ℕ) where
   -- the kind of a child
-  pub child-kind : (d j : ℕ) (x : Node) (m : ℕ) → ElementAt f d j x m → (q : Kind) → childAt f j q ≡ kindUnder q (nameIn x)
+  pub child-kind : (d j : ℕ) (x : Node) (m : ℕ) → ElementAt f d j x m → (q : ℕ) → childAt f j q ≡ kindUnder q (nameIn x)
   unfolding childAt
   child-kind zero j x m y q = absurd (element-deep f j x m y)
   child-kind (suc d) j (node p n l i) m y q = ap (kindUnder q) (sym ((element-law f d j (node p n l i) m y) .1))
 
-  seen-child : (d j : ℕ) (x : Node) (m : ℕ) → ElementAt f d j x m → (q : Kind) (earlier : List (List ℕ)) (s : Seen) → SeenIs q earlier s
+  seen-child : (d j : ℕ) (x : Node) (m : ℕ) → ElementAt f d j x m → (q : ℕ) (earlier : List (List ℕ)) (s : Seen) → SeenIs q earlier s
       → SeenIs q (alsoNamed (under (kindName q)) earlier x) (marked s (childAt f j q))
   seen-child d j (node p n l i) m y q earlier s z = rw (child-kind d j (node p n l i) m y q) (seen-on q earlier s z n p l i)
 
@@ -98,9 +90,9 @@ module _ (f : List ℕ) where
 
   -- what is held at depth d, where visits at that depth are right
   module _ (d : ℕ) (deep : d ≤ 8)
-      (go : (i : ℕ) (x : Node) (e : ℕ) → ElementAt f d i x e → (q : Kind) (earlier : List (List ℕ)) (s : Seen) → SeenIs q earlier s
+      (go : (i : ℕ) (x : Node) (e : ℕ) → ElementAt f d i x e → (q : ℕ) (earlier : List (List ℕ)) (s : Seen) → SeenIs q earlier s
       → (r : FoundSoFar) → Agrees (knownAt (under (kindName q)) earlier x) (visitFrom f d i (childAt f i q) (isOver q (childAt f i q) s) r)
-      r) (q : Kind) where
+      r) (q : ℕ) where
     abbrev Q : Parent
     Q = under (kindName q)
 
@@ -181,10 +173,10 @@ module _ (f : List ℕ) where
         record { index = rw (t, ← e, ne-eqb m 0 h) (sym (absorb-still ks (refusedIndex m (k .place)) h)); lacking = λ z. absurd (h z) }
 
     module _ (deep : suc d ≤ 8)
-        (go : (i : ℕ) (x : Node) (e : ℕ) → ElementAt f d i x e → (q : Kind) (earlier : List (List ℕ)) (s : Seen) → SeenIs q earlier s
+        (go : (i : ℕ) (x : Node) (e : ℕ) → ElementAt f d i x e → (q : ℕ) (earlier : List (List ℕ)) (s : Seen) → SeenIs q earlier s
         → (r : FoundSoFar) → Agrees (knownAt (under (kindName q)) earlier x)
         (visitFrom f d i (childAt f i q) (isOver q (childAt f i q) s) r) r) (i : ℕ) (n : List ℕ) (l : List Attribute) (t : Items) (e : ℕ)
-        (y : ElementAt f (suc d) i (node i n l t) e) (q : Kind) (earlier : List (List ℕ)) (s : Seen) (z : SeenIs q earlier s)
+        (y : ElementAt f (suc d) i (node i n l t) e) (q : ℕ) (earlier : List (List ℕ)) (s : Seen) (z : SeenIs q earlier s)
         (r : FoundSoFar) where
       abbrev K : Known
       K = knownOf q earlier i n l t
@@ -192,30 +184,45 @@ module _ (f : List ℕ) where
       -- a carried element
       module _ (c : oneOf (under (kindName q) .carried) n ≡ true) where
         not-barred : oneOf (under (kindName q) .barred) n ≡ false
-        not-barred = by-cases (oneOf (under (kindName q) .barred) n) (λ b. absurd (true≢false (sym c ∙ barred-not-carried q n b))) (λ b. b)
+        not-barred = carried-not-barred (kindName q) n c
+
+        named : kindName (kindUnder q n) ≡ n
+        named = kind-named q n (carried-held (kindName q) n c)
 
         fault-first : faultAt f i (kindUnder q n) (isOver q (kindUnder q n) s) ≡ firstNumber (ownFaults K)
-        unfolding faultAt
+        unfolding firstFault ownFault
         fault-first =
-            rw (carried-not-barred (kindUnder q n) (carried-carried q n c), over-is q earlier s z n c i l t)
+            rw (kind-barred q n ∙ not-barred, over-is q earlier s z n c i l t)
             (by-cases (tooMany K) (λ o. rw o (sym (over-law K not-barred o)))
-            (λ o. rw o (fault-law K f d e y deep short (kindUnder q n) (sym (carried-name q n c)) not-barred o)))
+            (λ o. rw o (fault-law K f d e y deep short (kindUnder q n) (sym named) not-barred o)))
+
+        -- what is kept of it
+        kept : entryAt f i (kindUnder q n) ≡ entryOf K
+        unfolding entryAt textNumber
+        kept =
+            let a = kind-is q n (carried-held (kindName q) n c) in
+            let b : textNumber (kindUnder q n) f i ≡ cond (same n (bytes "CHANNEL")) (goodOf (channelOf K)) 0 =
+            rw (named, channel-law K f d e y deep short) in
+            let g : gatheredAt (rulesFor (kindUnder q n)) f i ≡ gatheredOf K =
+            gather-law f d i i n l t e y (rulesFor (kindUnder q n)) ∙ ap (λ (m : List ℕ). gatheredList (rulesOf m) l nothingGathered) named in
+            let w : rowFrom (kindName (kindUnder q n)) (gatheredAt (rulesFor (kindUnder q n)) f i) ≡ rowFrom n (gatheredOf K) =
+            ap (λ (x : Gathered). rowFrom (kindName (kindUnder q n)) x) g ∙ ap (λ (m : List ℕ). rowFrom m (gatheredOf K)) named in
+            λ j. record { kind = a j; place = i; number = b j; row = w j }
 
         -- without a fault it is entered, and what it holds is visited
         enters : eqb (r .index .fault .number) 0 ≡ true → firstNumber (ownFaults K) ≡ 0 → (v : FoundSoFar)
             → AgreesIn (knownIn (under (kindName (kindUnder q n))) [] t)
-            (unmet (under (kindName (kindUnder q n))) (held (under (kindName (kindUnder q n))) [] t)) v (enteredFound r (kindUnder q n) i)
+            (unmet (under (kindName (kindUnder q n))) (held (under (kindName (kindUnder q n))) [] t)) v (enteredFound r (entryAt f i (kindUnder q n)))
             → Agrees (K ∷ knownIn (under n) [] t) v r
         unfolding absorb lacks any
         enters o h v a =
-            let m = carried-name q n c in
-            let b : AgreesIn (knownIn (under n) [] t) (unmet (under n) (held (under n) [] t)) v (enteredFound r (kindUnder q n) i) =
+            let m = named in
+            let b : AgreesIn (knownIn (under n) [] t) (unmet (under n) (held (under n) [] t)) v (enteredFound r (entryAt f i (kindUnder q n))) =
             rw m at a in
-            let k : kindAmong kinds n ≡ kindUnder q n = ap (kindAmong kinds) (sym m) ∙ kind-back (kindUnder q n) (carried-carried q n c) in
             record {
               index = b .index
                   ∙ ap (absorb (knownIn (under n) [] t))
-                  (ap (λ (x : Kind). entered (r .index) x i) (sym k) ∙ sym (absorb-enter K (r .index) o h));
+                  (ap (entered (r .index)) kept ∙ sym (absorb-enter K (r .index) o h));
               lacking = λ g. b .lacking g
                   ∙ or-turn (r .lacking) (any lacks (knownIn (under n) [] t)) (unmet (under n) (held (under n) [] t));
             }
@@ -224,11 +231,11 @@ module _ (f : List ℕ) where
         unfolding visitFrom looked
         carried =
             by-cases (eqb (r .index .fault .number) 0)
-            (λ o. rw (o, carried-carried q n c, fault-first)
+            (λ o. rw (o, kind-carried q n ∙ c, fault-first)
             (by-cases (eqb (firstNumber (ownFaults K)) 0)
             (λ h. rw h (enters o (eqb-true (firstNumber (ownFaults K)) 0 h) _
             (body d (omega arith) go (kindUnder q n) t e (walk.contentAt f i) (content-law f d i i n l t e y (walk.contentAt f i) refl)
-            (enteredFound r (kindUnder q n) i))))
+            (enteredFound r (entryAt f i (kindUnder q n))))))
             (λ h. rw h (faulty K (knownIn (under n) [] t) r (firstNumber (ownFaults K)) o refl
             (eqb-false (firstNumber (ownFaults K)) 0 h)))))
             (λ o. rw o (past (K ∷ knownIn (under n) [] t) r (eqb-false (r .index .fault .number) 0 o)))
@@ -236,18 +243,19 @@ module _ (f : List ℕ) where
       -- an element that is not carried
       barred : oneOf (under (kindName q) .barred) n ≡ true
           → Agrees (K ∷ knownIn (under n) [] t) (visitFrom f (suc d) i (kindUnder q n) (isOver q (kindUnder q n) s) r) r
-      unfolding visitFrom looked faultAt isCarried isBarred
+      unfolding visitFrom looked firstFault
       barred b =
-          rw (barred-kind q n (barred-not-carried q n b) b)
+          rw (kind-carried q n ∙ barred-not-carried (kindName q) n b, kind-barred q n ∙ b)
           (by-cases (eqb (r .index .fault .number) 0)
           (λ o. rw o (faulty K (knownIn (under n) [] t) r 7 o (sym (barred-law K b)) (λ g. absurd (omega (arith, g)))))
           (λ o. rw o (past (K ∷ knownIn (under n) [] t) r (eqb-false (r .index .fault .number) 0 o))))
 
       -- an element that is not known
-      unknown : kindUnder q n ≡ Unknown → Agrees [] (visitFrom f (suc d) i (kindUnder q n) (isOver q (kindUnder q n) s) r) r
-      unfolding visitFrom looked isCarried isBarred absorb any
-      unknown u =
-          rw u
+      unknown : oneOf (under (kindName q) .carried) n ≡ false → oneOf (under (kindName q) .barred) n ≡ false
+          → Agrees [] (visitFrom f (suc d) i (kindUnder q n) (isOver q (kindUnder q n) s) r) r
+      unfolding visitFrom looked absorb any
+      unknown c b =
+          rw (kind-carried q n ∙ c, kind-barred q n ∙ b)
           (by-cases (eqb (r .index .fault .number) 0)
           (λ o. rw o (record { index = refl; lacking = λ g. or-none (r .lacking) }))
           (λ o. rw o (record { index = refl; lacking = λ g. or-none (r .lacking) })))
@@ -260,11 +268,11 @@ module _ (f : List ℕ) where
           (by-cases (oneOf (under (kindName q) .carried) n)
           (λ c. rw c (carried c))
           (λ c. by-cases (oneOf (under (kindName q) .barred) n) (λ b. rw (c, b) (barred b))
-          (λ b. rw (c, b) (unknown (unknown-kind q n c b)))))
+          (λ b. rw (c, b) (unknown c b))))
 
   -- ---- every element
   pub visits : length f ≤ 32768 → (d : ℕ) → d ≤ 8 → (i : ℕ) (x : Node) (e : ℕ) → ElementAt f d i x e
-      → (q : Kind) (earlier : List (List ℕ)) (s : Seen) → SeenIs q earlier s → (r : FoundSoFar)
+      → (q : ℕ) (earlier : List (List ℕ)) (s : Seen) → SeenIs q earlier s → (r : FoundSoFar)
       → Agrees (knownAt (under (kindName q)) earlier x) (visitFrom f d i (childAt f i q) (isOver q (childAt f i q) s) r) r
   visits short zero h i x e y q earlier s z r = absurd (element-deep f i x e y)
   visits short (suc d) h i (node p n l t) e y q earlier s z r =

@@ -1,11 +1,11 @@
 -- What the functions answer, for every input. Code-shaped; proofs/Laws.antt ties it to the definitions. Nothing here has to be believed.
-use Prim.Native.Nat.{ℕ, zero, suc, _+_, _-_, _/_, _%_, _≤_}
+use Prim.Native.Nat.{ℕ, zero, suc, _+_, _/_, _%_, _≤_}
 use mathlib.Core.Path.{_≡_}
 use mathlib.Core.Option.{some}
 use mathlib.Core.List.{List, [], _∷_, _++_, map}
-use mathlib.Core.Bool.{Bool, true, false, cond, _&&_, _||_}
+use mathlib.Core.Bool.{Bool, false, not, cond, _&&_, _||_}
 use lib.Dec.{leb, ltb, eqb}
-use lib.ListN.{length, getD, replicate, set, take}
+use lib.ListN.{length, take}
 use lib.Seq.{slice}
 use Rattle.shape.specs.declared.Shape.{Shape}
 use Rattle.shape.specs.Shape.{Node, WellShaped, Shaped, shapeRefusal}
@@ -13,45 +13,46 @@ use Rattle.walk.specs.declared.Item.{Item}
 use Rattle.walk.specs.declared.Body.{Body}
 use Rattle.walk.specs.WalkCode as walk
 use Rattle.walk.specs.StandsCode.{ElementAt}
-use Rattle.schema.specs.declared.Kind.{Kind}
-use Rattle.schema.specs.declared.Kind.the-variants.{File, Kvaser, Version, Settings, Mode, CanBus, Parameters, TriggerBlock, Triggers, MsgId, MsgDlc, ErrorFrame, Startup, Statements, Statement, Expression, Actions, StartLog, StopLog, StopLogCompletely, Filters, MessagePass, MessageStop, Channel, NotCarried, Unknown}
 use Rattle.schema.specs.declared.Times.{Times}
 use Rattle.schema.specs.declared.Times.the-variants.{Once, OneTo, UpTo}
-use Rattle.schema.specs.Schema.{under}
-use Rattle.schema.specs.SchemaCode.{kindName, kinds, kindAmong, kindUnder, orderOf, isCarried}
+use Rattle.schema.specs.Schema.{oneOf, under}
+use Rattle.schema.specs.SchemaCode.{kindName, kindUnder, isCarried, isBarred}
 use Rattle.file_rules.specs.Element.{Known, Fault, ownFaults}
-use Rattle.element.specs.ElementCode.{ownFault, tagFault, firstNumber}
+use Rattle.element.specs.declared.Gathered.{Gathered}
+use Rattle.element.specs.ElementCode.{rulesFor, gatheredAt, badText, misspelt, textNumber, verdict, firstNumber}
 use Rattle.file_rules.specs.Document.{knownElements, elementFaults}
 use Rattle.file_rules.specs.RefusalCode.{refusedAt}
-use Rattle.document.specs.declared.Entry.{Entry}
-use Rattle.document.specs.declared.Index.{Index}
+use Rattle.document.specs.EntriesCode.{Entry, rowFrom, entryOf, written, rowSize, entriesIn}
+use Rattle.document.specs.declared.Found.{Found}
+use Rattle.file_rules.specs.declared.Refusal.{Refusal}
 use Rattle.document.specs.declared.Seen.{Seen}
 use Rattle.document.specs.declared.Walk.{Walk}
 use Rattle.document.specs.declared.Inside.{Inside}
-use Rattle.lists.specs.FlagsCode.{lacksFirst}
+use Rattle.lists.specs.Lists.{any, Every}
+use Rattle.lists.specs.BitsCode.{upto, hasBit, withBit}
+
+-- the known elements in file order, or the first refusal (then there are no entries)
+pub record Index : Type 0 where
+  pub fault : Refusal
+  pub entries : List Entry
 
 -- the index so far, and whether a required element lacks
 pub record FoundSoFar : Type 0 where
   pub index : Index
   pub lacking : Bool
 
-abbrev pub noEntry : Entry
-noEntry = record { kind = File; place = 0 }
-
 abbrev pub refusedIndex : ℕ → ℕ → Index
-refusedIndex n p = record { fault = refusedAt n p; count = 0; entries = replicate 382 noEntry }
+refusedIndex n p = record { fault = refusedAt n p; entries = [] }
 
 abbrev pub empty : Index
 empty = refusedIndex 0 0
 
 -- one entry more, if there is room for it
-unfoldable pub entered : Index → Kind → ℕ → Index
-entered x k p =
-    cond (ltb (x .count) 382)
-    (record { fault = x .fault; count = x .count + 1; entries = set (x .entries) (x .count) (record { kind = k; place = p }) }) x
+unfoldable pub entered : Index → Entry → Index
+entered x e = cond (leb (length (written (x .entries))) 3468) (record { fault = x .fault; entries = x .entries ++ (e ∷ []) }) x
 
-abbrev pub enteredFound : FoundSoFar → Kind → ℕ → FoundSoFar
-enteredFound r k p = record { index = entered (r .index) k p; lacking = r .lacking }
+abbrev pub enteredFound : FoundSoFar → Entry → FoundSoFar
+enteredFound r e = record { index = entered (r .index) e; lacking = r .lacking }
 
 abbrev pub refusedFound : FoundSoFar → ℕ → ℕ → FoundSoFar
 refusedFound r n p = record { index = refusedIndex n p; lacking = r .lacking }
@@ -60,92 +61,72 @@ refusedFound r n p = record { index = refusedIndex n p; lacking = r .lacking }
 unfoldable pub absorbed : Known → Index → Index
 absorbed k x =
     cond (eqb (x .fault .number) 0)
-    (cond (eqb (firstNumber (ownFaults k)) 0) (entered x (kindAmong kinds (k .name)) (k .place))
+    (cond (eqb (firstNumber (ownFaults k)) 0) (entered x (entryOf k))
     (refusedIndex (firstNumber (ownFaults k)) (k .place))) x
 
 unfoldable pub absorb : List Known → Index → Index
 absorb [] x = x
 absorb (k ∷ ks) x = absorb ks (absorbed k x)
 
--- ---- what an element holds so far: how many (counted up to 64), and which of those that it holds once
+-- ---- what an element holds so far: how many (counted up to 64), and which kinds
 abbrev pub noneSeen : Seen
-noneSeen = record { count = 0; names = replicate 5 false }
+noneSeen = record { count = 0; kinds = 0 }
 
 -- beyond every limit the count stands still
 unfoldable pub oneMore : ℕ → ℕ
 oneMore n = cond (ltb n 64) (n + 1) n
 
-unfoldable pub marked : Seen → Kind → Seen
-marked s k = cond (isCarried k) (record { count = oneMore (s .count); names = set (s .names) (orderOf k) true }) s
+unfoldable pub marked : Seen → ℕ → Seen
+marked s k = cond (isCarried (kindName k)) (record { count = oneMore (s .count); kinds = withBit (s .kinds) k }) s
 
 -- one too many of the kind k under the kind q
-abbrev pub overBy : Times → Kind → Seen → Bool
-overBy Once k s = getD (s .names) (orderOf k) false
+abbrev pub overBy : Times → ℕ → Seen → Bool
+overBy Once k s = hasBit (s .kinds) k
 overBy (OneTo m) k s = leb m (s .count)
 overBy (UpTo m) k s = leb m (s .count)
 
-unfoldable pub isOver : Kind → Kind → Seen → Bool
+unfoldable pub isOver : ℕ → ℕ → Seen → Bool
 isOver q k s = overBy (under (kindName q) .times) k s
 
-abbrev pub lacksBy : Times → Kind → Seen → Bool
-lacksBy Once q s = lacksFirst (length (under (kindName q) .carried)) (s .names)
+abbrev pub lacksBy : Times → ℕ → Seen → Bool
+lacksBy Once q s = any (λ k. oneOf (under (kindName q) .carried) (kindName k) && not (hasBit (s .kinds) k)) (upto 64)
 lacksBy (OneTo m) q s = eqb (s .count) 0
 lacksBy (UpTo m) q s = false
 
-unfoldable pub lacksSome : Kind → Seen → Bool
+unfoldable pub lacksSome : ℕ → Seen → Bool
 lacksSome q s = lacksBy (under (kindName q) .times) q s
 
 -- at the end tag
-unfoldable pub closedWalk : FoundSoFar → Kind → Seen → FoundSoFar
+unfoldable pub closedWalk : FoundSoFar → ℕ → Seen → FoundSoFar
 closedWalk r q s = record { index = r .index; lacking = r .lacking || lacksSome q s }
 
 -- ---- the walk
 -- the kind of the element at j, under the kind q
-unfoldable pub childAt : List ℕ → ℕ → Kind → Kind
+unfoldable pub childAt : List ℕ → ℕ → ℕ → ℕ
 childAt f j q = kindUnder q (slice (walk.nameAt f j .from) (walk.nameAt f j .to) f)
 
-unfoldable pub isBarred : Kind → Bool
-isBarred File = false
-isBarred Kvaser = false
-isBarred Version = false
-isBarred Settings = false
-isBarred Mode = false
-isBarred CanBus = false
-isBarred Parameters = false
-isBarred TriggerBlock = false
-isBarred Triggers = false
-isBarred MsgId = false
-isBarred MsgDlc = false
-isBarred ErrorFrame = false
-isBarred Startup = false
-isBarred Statements = false
-isBarred Statement = false
-isBarred Expression = false
-isBarred Actions = false
-isBarred StartLog = false
-isBarred StopLog = false
-isBarred StopLogCompletely = false
-isBarred Filters = false
-isBarred MessagePass = false
-isBarred MessageStop = false
-isBarred Channel = false
-isBarred NotCarried = true
-isBarred Unknown = false
-
 -- not behind a fault; what is not known is skipped
-unfoldable pub looked : FoundSoFar → Kind → Bool
-looked r k = eqb (r .index .fault .number) 0 && (isCarried k || isBarred k)
+unfoldable pub looked : FoundSoFar → ℕ → Bool
+looked r k = eqb (r .index .fault .number) 0 && (isCarried (kindName k) || isBarred (kindName k))
 
--- the first of 4, 7 for its kind, 5, 6, 7 for a value, or 0
-unfoldable pub faultAt : List ℕ → ℕ → Kind → Bool → ℕ
-faultAt f i k over = cond (isBarred k) 7 (cond over 4 (ownFault k f i))
+-- the first of 4, 7 for its kind, 5, 6, 7 for a value, or 0; t is for a bad text
+unfoldable pub firstFault : ℕ → Bool → Bool → Gathered → ℕ
+firstFault k over t g = cond (isBarred (kindName k)) 7 (cond over 4 (verdict (rulesFor k) t g))
+
+abbrev pub faultAt : List ℕ → ℕ → ℕ → Bool → ℕ
+faultAt f i k over = firstFault k over (badText k f i) (gatheredAt (rulesFor k) f i)
 
 -- the same, stray text aside
-unfoldable pub tagFaultAt : List ℕ → ℕ → Kind → Bool → ℕ
-tagFaultAt f i k over = cond (isBarred k) 7 (cond over 4 (tagFault k f i))
+abbrev pub tagFaultAt : List ℕ → ℕ → ℕ → Bool → ℕ
+tagFaultAt f i k over = firstFault k over (misspelt k f i) (gatheredAt (rulesFor k) f i)
+
+-- what is kept of the element at i
+unfoldable pub entryAt : List ℕ → ℕ → ℕ → Entry
+entryAt f i k =
+    record { kind = k; place = i; number = textNumber k f i; row = rowFrom (kindName k) (gatheredAt (rulesFor k) f i) }
 
 -- the items from j on, in an element of the kind q; n is more than there can be
-unfoldable pub visitItems : (ℕ → Kind → Bool → FoundSoFar → FoundSoFar) → List ℕ → Kind → ℕ → ℕ → Seen → FoundSoFar → FoundSoFar
+unfoldable pub visitItems : (ℕ → ℕ → Bool → FoundSoFar → FoundSoFar) → List ℕ → ℕ → ℕ → ℕ → Seen → FoundSoFar → FoundSoFar
 visitItems visit f q zero j s r = r
 visitItems visit f q (suc n) j s r =
     elim (walk.itemAt f j) [
@@ -157,17 +138,17 @@ visitItems visit f q (suc n) j s r =
       | Item.Broken ↦ r
     ]
 
-unfoldable pub visitBody : (ℕ → Kind → Bool → FoundSoFar → FoundSoFar) → List ℕ → Kind → FoundSoFar → Body → FoundSoFar
+unfoldable pub visitBody : (ℕ → ℕ → Bool → FoundSoFar → FoundSoFar) → List ℕ → ℕ → FoundSoFar → Body → FoundSoFar
 visitBody visit f q r (Body.Open o) = visitItems visit f q (suc (length f)) o noneSeen r
 visitBody visit f q r (Body.Empty e) = closedWalk r q noneSeen
 visitBody visit f q r Body.Broken = r
 
 -- the element at i, of the kind k, and what it holds
-unfoldable pub visitFrom : List ℕ → ℕ → ℕ → Kind → Bool → FoundSoFar → FoundSoFar
+unfoldable pub visitFrom : List ℕ → ℕ → ℕ → ℕ → Bool → FoundSoFar → FoundSoFar
 visitFrom f zero i k over r = r
 visitFrom f (suc d) i k over r =
     cond (looked r k)
-    (cond (eqb (faultAt f i k over) 0) (visitBody (visitFrom f d) f k (enteredFound r k i) (walk.contentAt f i))
+    (cond (eqb (faultAt f i k over) 0) (visitBody (visitFrom f d) f k (enteredFound r (entryAt f i k)) (walk.contentAt f i))
     (refusedFound r (faultAt f i k over) i)) r
 
 -- the index of a file of good shape
@@ -179,56 +160,41 @@ indexAt i r = cond (eqb (r .index .fault .number) 0 && r .lacking) (refusedIndex
 
 unfoldable pub indexed : List ℕ → Index
 indexed f =
-    cond (isCarried (childAt f (walk.rootAt f) File))
-    (indexAt (walk.rootAt f) (visitFrom f 8 (walk.rootAt f) (childAt f (walk.rootAt f) File) false noneFound))
+    cond (isCarried (kindName (childAt f (walk.rootAt f) 0)))
+    (indexAt (walk.rootAt f) (visitFrom f 8 (walk.rootAt f) (childAt f (walk.rootAt f) 0) false noneFound))
     (refusedIndex 3 (walk.rootAt f))
 
--- ---- the walk as the code keeps it: an entry is a mark, its place times 32 and the number of its kind
-unfoldable pub kindNumber : Kind → ℕ
-kindNumber File = 0
-kindNumber Kvaser = 1
-kindNumber Version = 2
-kindNumber Settings = 3
-kindNumber Mode = 4
-kindNumber CanBus = 5
-kindNumber Parameters = 6
-kindNumber TriggerBlock = 7
-kindNumber Triggers = 8
-kindNumber MsgId = 9
-kindNumber MsgDlc = 10
-kindNumber ErrorFrame = 11
-kindNumber Startup = 12
-kindNumber Statements = 13
-kindNumber Statement = 14
-kindNumber Expression = 15
-kindNumber Actions = 16
-kindNumber StartLog = 17
-kindNumber StopLog = 18
-kindNumber StopLogCompletely = 19
-kindNumber Filters = 20
-kindNumber MessagePass = 21
-kindNumber MessageStop = 22
-kindNumber Channel = 23
-kindNumber NotCarried = 24
-kindNumber Unknown = 25
-
-unfoldable pub kindOf : ℕ → Kind
-kindOf n = getD (File ∷ kinds ++ NotCarried ∷ []) n Unknown
-
-unfoldable pub entryFrom : ℕ → Entry
-entryFrom m = record { kind = kindOf (m % 32); place = m / 32 }
-
--- the entries of the first n marks, and none behind them
-unfoldable pub entriesFrom : ℕ → List ℕ → List Entry
-entriesFrom n ms = map entryFrom (take n ms) ++ replicate (382 - n) noEntry
-
+-- ---- the walk as the code keeps it: the entries stand at the front of a buffer of words
 unfoldable pub found : Walk → List ℕ → FoundSoFar
-found w ms =
-    record { index = record { fault = w .fault; count = w .count; entries = entriesFrom (w .count) ms }; lacking = w .lacking }
+found w ms = record { index = record { fault = w .fault; entries = entriesIn (take (w .end) ms) }; lacking = w .lacking }
+
+-- rows are as long as their kinds have them
+abbrev pub Formed : Entry → Type 0
+Formed e = length (e .row) ≡ rowSize (e .kind)
+
+-- the words up to the end are those of entries
+pub record Sound (end : ℕ) (ms : List ℕ) : Type 0 where
+  pub entries : List Entry
+  pub formed : Every Formed entries
+  pub words : take end ms ≡ written entries
+  pub long : end ≡ length (written entries)
+
+-- the words of a row; an entry by what was read of it
+abbrev pub rowWords : Gathered → List ℕ
+rowWords g = g .has % 4294967296 ∷ g .has / 4294967296 ∷ g .values
+
+abbrev pub entryBy : ℕ → ℕ → ℕ → Gathered → Entry
+entryBy k p n g = record { kind = k; place = p; number = n; row = rowFrom (kindName k) g }
+
+-- the walk v, which is still at i, stands for r with the entry e
+pub record EnteredIs (r : FoundSoFar) (e : Entry) (i : ℕ) (v : Walk) (ms : List ℕ) : Type 0 where
+  pub walks : found v ms ≡ enteredFound r e
+  pub stays : v .at ≡ i
+  pub sound : Sound (v .end) ms
 
 -- an element stands at i, in which elements nest at most d deep, and there is room for every mark
 pub record Ready (f : List ℕ) (d i : ℕ) (ms : List ℕ) : Type 0 where
-  pub room : length ms ≡ 382
+  pub room : length ms ≡ 3498
   pub short : length f ≤ 32768
   pub shallow : d ≤ 8
   pub node : Node
@@ -239,19 +205,18 @@ pub record Ready (f : List ℕ) (d i : ℕ) (ms : List ℕ) : Type 0 where
 pub record VisitedIs (f : List ℕ) (i : ℕ) (r : FoundSoFar) (v : Walk) (ms : List ℕ) : Type 0 where
   pub walks : found v ms ≡ r
   pub ends : v .at ≡ walk.skipped f i
+  pub sound : Sound (v .end) ms
 
 -- the same, and whether stray text stands in it
 pub record InsideIs (f : List ℕ) (i : ℕ) (r : FoundSoFar) (v : Inside) (ms : List ℕ) : Type 0 where
   pub walks : found (v .walk) ms ≡ r
   pub ends : v .walk .at ≡ walk.skipped f i
   pub strays : v .stray ≡ walk.stray (walk.textAt f i)
+  pub sound : Sound (v .walk .end) ms
 
 -- ---- what becomes of a file: a refusal by its shape, the first fault of its elements, or all its known elements
-abbrev pub entryOf : Known → Entry
-entryOf k = record { kind = kindAmong kinds (k .name); place = k .place }
-
 unfoldable pub indexOf : List Known → Index
-indexOf ks = record { fault = refusedAt 0 0; count = length ks; entries = map entryOf ks ++ replicate (382 - length ks) noEntry }
+indexOf ks = record { fault = refusedAt 0 0; entries = map entryOf ks }
 
 pub data Indexes (s : List ℕ) : Index → Type 0 where
   shapeless : (a : Shape) (n p : ℕ) → Shaped s a → shapeRefusal a ≡ some (n, p) → Indexes s (refusedIndex n p)
@@ -262,3 +227,15 @@ pub data Indexes (s : List ℕ) : Index → Type 0 where
       → elementFaults x ≡ a ∷ l
       → Indexes s (refusedIndex (a .number) (a .place))
   faultless : (x : Node) → length s ≤ 32768 → WellShaped s x → elementFaults x ≡ [] → Indexes s (indexOf (knownElements x))
+
+-- the index x, as it was left: its fault, and its entries at the front of the words
+pub record Holds (r : Found) (ms : List ℕ) (x : Index) : Type 0 where
+  pub fault : r .fault ≡ x .fault
+  pub words : take (r .end) ms ≡ written (x .entries)
+  pub long : r .end ≡ length (written (x .entries))
+  pub formed : Every Formed (x .entries)
+
+pub record IndexedIn (s : List ℕ) (r : Found) (ms : List ℕ) : Type 0 where
+  pub index : Index
+  pub indexes : Indexes s index
+  pub holds : Holds r ms index

@@ -4,22 +4,25 @@
 // crates/file_rules/specs/Document.antt says of its document.
 // May not touch: what the elements say together (names, channels, expressions): that is for the crates above.
 ghost use mathlib.Core.Path.{_≡_};
-ghost use mathlib.Core.Bool.{true, false};
-ghost use Prim.Native.Nat.{ℕ, suc, _≤_};
-ghost use mathlib.Core.List.{List};
-ghost use lib.ListN.{length, getD, set};
+ghost use Prim.Native.Nat.{ℕ, suc, _+_, _≤_, _<_};
+ghost use mathlib.Core.List.{List, [], _∷_, _++_};
+ghost use lib.ListN.{length, take};
 ghost use Rattle.shape.specs.declared.Shape.the-variants.{Whole};
 ghost use Rattle.shape.specs.Shape.{Shaped};
 ghost use Rattle.walk.specs.WalkCode.{contentAt, skipped};
 ghost use Rattle.element.specs.ElementCode.{worded};
-ghost use Rattle.schema.specs.SchemaCode.{isCarried};
-ghost use Rattle.document.specs.DocumentCode.{refusedIndex, enteredFound, refusedFound, noneSeen, oneMore, marked, isOver, lacksSome, closedWalk, childAt, isBarred, looked, faultAt, tagFaultAt, visitBody, visitFrom, indexAt, noneFound, indexed, Indexes, kindNumber, kindOf, entryFrom, entriesFrom, found, Ready, VisitedIs, InsideIs};
-ghost use Rattle.lists.specs.FlagsCode.{lacksFirst};
+ghost use Rattle.schema.specs.SchemaCode.{kindCount};
+ghost use Rattle.document.specs.DocumentCode.{refusedIndex, refusedFound, noneSeen, oneMore, marked, isOver, lacksSome, closedWalk, childAt, looked, firstFault, visitBody, visitFrom, indexAt, noneFound, indexed, rowWords, entryBy, found, Sound, Ready, VisitedIs, InsideIs, EnteredIs, Holds, IndexedIn};
+ghost use Rattle.lists.specs.FillsCode.{Filled};
+use element::Gathered;
 use element::faults;
+use element::fields;
 use file_rules::Refusal;
-use schema::Kind;
+use lists::bits;
 use schema::Times;
-use schema::names;
+use schema::attributes;
+use schema::attributes::ATTRIBUTES;
+use schema::kinds;
 use shape::Shape;
 use text::runs;
 use walk::Body;
@@ -28,23 +31,17 @@ use walk::elements;
 use walk::items;
 use walk::tags;
 
-pub struct Entry {
-    pub kind: Kind,
-    pub place: usize,
-}
-
-// The known elements in file order, or the first refusal (then there are no entries).
-pub struct Index {
+// The first refusal (then there are no entries), and where the entries end.
+pub struct Found {
     pub fault: Refusal,
-    pub count: usize,
-    pub entries: [Entry; 382],
+    pub end: usize,
 }
 
-// The walk so far: where it stands, the first refusal, how many entries are marked, and whether a required element lacks.
+// The walk so far: where it stands, the first refusal, where the entries end, and whether a required element lacks.
 pub struct Walk {
     pub at: usize,
     pub fault: Refusal,
-    pub count: usize,
+    pub end: usize,
     pub lacking: bool,
 }
 
@@ -54,173 +51,89 @@ pub struct Inside {
     pub stray: bool,
 }
 
-// What an element holds so far: how many (counted up to 64), and which of those that it holds once.
+// What an element holds so far: how many (counted up to 64), and which kinds, as a set.
 pub struct Seen {
     pub count: usize,
-    pub names: [bool; 5],
+    pub kinds: u64,
 }
 
-fn is_carried(kind: Kind) -> bool
-    ensures { λ r. ⌜ r ≡ isCarried kind ⌝ }
+fn refuse(number: u32, place: usize) -> Found
+    ensures { λ r. ⌜ ((ms : List ℕ) → Holds r ms (refusedIndex number place)) ⌝ }
 {
-    match kind {
-        Kind::File => false,
-        Kind::NotCarried => false,
-        Kind::Unknown => false,
-        _ => true,
-    }
-}
-
-fn is_barred(kind: Kind) -> bool
-    ensures { λ r. ⌜ r ≡ isBarred kind ⌝ }
-{
-    match kind {
-        Kind::NotCarried => true,
-        _ => false,
-    }
-}
-
-fn refuse(number: u32, place: usize) -> Index
-    ensures { λ r. ⌜ r ≡ refusedIndex number place ⌝ }
-{
-    let none = Entry {
-        kind: Kind::File,
-        place: 0,
-    };
-    Index {
+    Found {
         fault: Refusal { number, place },
-        count: 0,
-        entries: [none; 382],
+        end: 0,
     }
 }
 
-fn kind_number(kind: Kind) -> usize
-    ensures { λ r. ⌜ r ≡ kindNumber kind ⌝ }
+// The numbers of an element's attributes, from `at` on; where they end.
+fn put_values(values: [u32; ATTRIBUTES], at: usize, words: &mut [u32]) -> usize
+    requires { ⌜ at + 25 ≤ length (now words) ⌝ }
+    ensures { λ r. ⌜ Filled (take at (now (words .entry)) ++ values) (now (words .entry)) (now (words .exit)) r ⌝ }
 {
-    match kind {
-        Kind::File => 0,
-        Kind::Kvaser => 1,
-        Kind::Version => 2,
-        Kind::Settings => 3,
-        Kind::Mode => 4,
-        Kind::CanBus => 5,
-        Kind::Parameters => 6,
-        Kind::TriggerBlock => 7,
-        Kind::Triggers => 8,
-        Kind::MsgId => 9,
-        Kind::MsgDlc => 10,
-        Kind::ErrorFrame => 11,
-        Kind::Startup => 12,
-        Kind::Statements => 13,
-        Kind::Statement => 14,
-        Kind::Expression => 15,
-        Kind::Actions => 16,
-        Kind::StartLog => 17,
-        Kind::StopLog => 18,
-        Kind::StopLogCompletely => 19,
-        Kind::Filters => 20,
-        Kind::MessagePass => 21,
-        Kind::MessageStop => 22,
-        Kind::Channel => 23,
-        Kind::NotCarried => 24,
-        Kind::Unknown => 25,
+    let mut a = 0;
+    while a < ATTRIBUTES {
+        words[at + a] = values[a];
+        a += 1;
     }
+    at + a
 }
 
-fn kind_of(n: usize) -> Kind
-    ensures { λ r. ⌜ r ≡ kindOf n ⌝ }
+// Which attributes there are, and their numbers.
+fn put_row(g: Gathered, at: usize, words: &mut [u32]) -> usize
+    requires { ⌜ at + 27 ≤ length (now words) ⌝ }
+    ensures { λ r. ⌜ Filled (take at (now (words .entry)) ++ rowWords g) (now (words .entry)) (now (words .exit)) r ⌝ }
 {
-    match n {
-        0 => Kind::File,
-        1 => Kind::Kvaser,
-        2 => Kind::Version,
-        3 => Kind::Settings,
-        4 => Kind::Mode,
-        5 => Kind::CanBus,
-        6 => Kind::Parameters,
-        7 => Kind::TriggerBlock,
-        8 => Kind::Triggers,
-        9 => Kind::MsgId,
-        10 => Kind::MsgDlc,
-        11 => Kind::ErrorFrame,
-        12 => Kind::Startup,
-        13 => Kind::Statements,
-        14 => Kind::Statement,
-        15 => Kind::Expression,
-        16 => Kind::Actions,
-        17 => Kind::StartLog,
-        18 => Kind::StopLog,
-        19 => Kind::StopLogCompletely,
-        20 => Kind::Filters,
-        21 => Kind::MessagePass,
-        22 => Kind::MessageStop,
-        23 => Kind::Channel,
-        24 => Kind::NotCarried,
-        _ => Kind::Unknown,
-    }
+    let values = g.values;
+    words[at] = (g.has % 4294967296) as u32;
+    words[at + 1] = (g.has / 4294967296) as u32;
+    put_values(values, at + 2, words)
 }
 
-fn entry_from(mark: usize) -> Entry
-    ensures { λ r. ⌜ r ≡ entryFrom mark ⌝ }
+// An element's kind, its place and the number in its text.
+fn put_head(kind: usize, place: usize, number: u32, at: usize, words: &mut [u32]) -> usize
+    requires { ⌜ (at + 3 ≤ length (now words)) × (kind < kindCount) × (place ≤ 32768) ⌝ }
+    ensures { λ r. ⌜ Filled (take at (now (words .entry)) ++ (kind ∷ place ∷ number ∷ [])) (now (words .entry)) (now (words .exit)) r ⌝ }
 {
-    let kind = kind_of(mark % 32);
-    Entry {
-        kind,
-        place: mark / 32,
-    }
+    words[at] = kind as u32;
+    words[at + 1] = place as u32;
+    words[at + 2] = number;
+    at + 3
 }
 
-// The entries of the first n marks.
-fn entries_of(marks: &[usize], n: usize) -> [Entry; 382]
-    requires { ⌜ length (now marks) ≡ 382 ⌝ }
-    ensures { λ r. ⌜ r ≡ entriesFrom n (now (marks .entry)) ⌝ }
+// The element where the walk stands is entered, if there is room for it.
+fn enter(walk: Walk, kind: usize, number: u32, g: Gathered, words: &mut [u32]) -> Walk
+    requires { ⌜ (length (now words) ≡ 3498) × (walk .at ≤ 32768) × (kind < kindCount) × Sound (walk .end) (now words) ⌝ }
+    ensures { λ r. ⌜ EnteredIs (found walk (now (words .entry))) (entryBy kind (walk .at) number g) (walk .at) r (now (words .exit)) ⌝ }
 {
-    let none = Entry {
-        kind: Kind::File,
-        place: 0,
-    };
-    let mut all = [none; 382];
-    let mut at = 0;
-    while at < 382 {
-        if n <= at {
-            return all;
-        }
-        all[at] = entry_from(marks[at]);
-        at += 1;
-    }
-    all
-}
-
-// The element where the walk stands is marked by its place and the number of its kind, if there is room for it.
-fn enter(walk: Walk, kind: Kind, marks: &mut [usize]) -> Walk
-    requires { ⌜ (length (now marks) ≡ 382) × (walk .at ≤ 32768) ⌝ }
-    ensures { λ r. ⌜ (found r (now (marks .exit)) ≡ enteredFound (found walk (now (marks .entry))) kind (walk .at)) × (r .at ≡ walk .at) ⌝ }
-{
-    let n = walk.count;
-    if n < 382 {
-        let k = kind_number(kind);
-        marks[n] = walk.at * 32 + k;
-        let mut next = walk;
-        next.count = n + 1;
+    let at = walk.end;
+    let mut next = walk;
+    if 3468 < at {
         return next;
     }
-    walk
+    let head = put_head(kind, walk.at, number, at, words);
+    if attributes::is_ruled(kind) {
+        next.end = put_row(g, head, words);
+        return next;
+    }
+    next.end = head;
+    next
 }
 
 // Behind a fault there are no entries.
 fn refused(walk: Walk, number: u32, place: usize) -> Walk
-    ensures { λ r. ⌜ ((ms : List ℕ) → found r ms ≡ refusedFound (found walk ms) number place) × (r .at ≡ walk .at) ⌝ }
+    ensures { λ r. ⌜ ((ms : List ℕ) → found r ms ≡ refusedFound (found walk ms) number place) × (r .at ≡ walk .at) × (r .end ≡ 0) ⌝ }
 {
     Walk {
         at: walk.at,
         fault: Refusal { number, place },
-        count: 0,
+        end: 0,
         lacking: walk.lacking,
     }
 }
 
 fn move_to(walk: Walk, at: usize) -> Walk
-    ensures { λ r. ⌜ ((ms : List ℕ) → found r ms ≡ found walk ms) × (r .at ≡ at) ⌝ }
+    ensures { λ r. ⌜ ((ms : List ℕ) → found r ms ≡ found walk ms) × (r .at ≡ at) × (r .end ≡ walk .end) ⌝ }
 {
     let mut next = walk;
     next.at = at;
@@ -230,10 +143,7 @@ fn move_to(walk: Walk, at: usize) -> Walk
 fn none_seen() -> Seen
     ensures { λ r. ⌜ r ≡ noneSeen ⌝ }
 {
-    Seen {
-        count: 0,
-        names: [false; 5],
-    }
+    Seen { count: 0, kinds: 0 }
 }
 
 // Beyond every limit the count stands still.
@@ -243,56 +153,38 @@ fn one_more(count: usize) -> usize
     if count < 64 { count + 1 } else { count }
 }
 
-fn flagged(names: [bool; 5], at: usize) -> [bool; 5]
-    ensures { λ r. ⌜ r ≡ set names at true ⌝ }
-{
-    if at < 5 {
-        let mut next = names;
-        next[at] = true;
-        return next;
-    }
-    names
-}
-
-fn mark(seen: Seen, kind: Kind) -> Seen
+fn mark(seen: Seen, kind: usize) -> Seen
     ensures { λ r. ⌜ r ≡ marked seen kind ⌝ }
 {
-    if is_carried(kind) {
-        let at = schema::order_of(kind);
+    if kinds::is_carried(kind) {
         let count = one_more(seen.count);
-        let before = seen.names;
-        let names = flagged(before, at);
-        return Seen { count, names };
+        let kinds = bits::with_bit(seen.kinds, kind);
+        return Seen { count, kinds };
     }
     seen
 }
 
 // One too many of its kind, or of its parent's.
-fn is_over(parent: Kind, kind: Kind, seen: Seen) -> bool
+fn is_over(parent: usize, kind: usize, seen: Seen) -> bool
     ensures { λ r. ⌜ r ≡ isOver parent kind seen ⌝ }
 {
-    let limit = schema::times_of(parent);
+    let limit = kinds::times_of(parent);
     match limit {
-        Times::Once => {
-            let at = schema::order_of(kind);
-            let names = seen.names;
-            lists::is_flagged(&names, at)
-        }
+        Times::Once => bits::has_bit(seen.kinds, kind),
         Times::OneTo(m) => (m as usize) <= seen.count,
         Times::UpTo(m) => (m as usize) <= seen.count,
     }
 }
 
 // Does an element lack what it must hold?
-fn lacks_some(kind: Kind, seen: Seen) -> bool
+fn lacks_some(kind: usize, seen: Seen) -> bool
     ensures { λ r. ⌜ r ≡ lacksSome kind seen ⌝ }
 {
-    let limit = schema::times_of(kind);
+    let limit = kinds::times_of(kind);
     match limit {
         Times::Once => {
-            let n = schema::held_by(kind);
-            let names = seen.names;
-            lists::lacks_first(&names, n)
+            let carried = kinds::carried_in(kind);
+            !bits::has_all(seen.kinds, carried)
         }
         Times::OneTo(_) => seen.count == 0,
         Times::UpTo(_) => false,
@@ -300,15 +192,15 @@ fn lacks_some(kind: Kind, seen: Seen) -> bool
 }
 
 // At the end tag, behind which the walk goes on.
-fn close(walk: Walk, kind: Kind, seen: Seen, end: usize, stray: bool) -> Inside
-    ensures { λ r. ⌜ ((ms : List ℕ) → found (r .walk) ms ≡ closedWalk (found walk ms) kind seen) × (r .walk .at ≡ end) × (r .stray ≡ stray) ⌝ }
+fn close(walk: Walk, kind: usize, seen: Seen, end: usize, stray: bool) -> Inside
+    ensures { λ r. ⌜ ((ms : List ℕ) → found (r .walk) ms ≡ closedWalk (found walk ms) kind seen) × (r .walk .at ≡ end) × (r .stray ≡ stray) × (r .walk .end ≡ walk .end) ⌝ }
 {
     let lacks = lacks_some(kind, seen);
     let fault = walk.fault;
     let closed = Walk {
         at: end,
         fault,
-        count: walk.count,
+        end: walk.end,
         lacking: walk.lacking | lacks,
     };
     Inside {
@@ -318,89 +210,84 @@ fn close(walk: Walk, kind: Kind, seen: Seen, end: usize, stray: bool) -> Inside
 }
 
 // The kind of the element at j, under an element of the kind `parent`.
-fn child_at(file: &[u8], j: usize, parent: Kind) -> Kind
+fn child_at(file: &[u8], j: usize, parent: usize) -> usize
     ensures { λ r. ⌜ r ≡ childAt (now (file .entry)) j parent ⌝ }
 {
     let name = tags::name_of(file, j);
     let from = name.from;
     let to = name.to;
-    names::kind_under(parent, &file[from..to])
+    kinds::kind_under(parent, &file[from..to])
 }
 
-// The first of 4, 7 for its kind, 5, 6, 7 for a value; 0 if there is none.
-fn fault_at(file: &[u8], i: usize, kind: Kind, over: bool) -> u32
-    ensures { λ r. ⌜ r ≡ faultAt (now (file .entry)) i kind over ⌝ }
+// The first of 4, 7 for its kind, 5, 6, 7 for a value, by its attributes and whether its text is bad; 0 if there is none.
+fn fault_of(kind: usize, over: bool, g: Gathered, bad: bool) -> u32
+    ensures { λ r. ⌜ r ≡ firstFault kind over bad g ⌝ }
 {
-    if is_barred(kind) {
+    if kinds::is_barred(kind) {
         return 7;
     }
     if over {
         return 4;
     }
-    faults::own_fault(file, i, kind)
-}
-
-// The same, stray text aside: what a start tag and a text that is read tell.
-fn tag_fault_at(file: &[u8], i: usize, kind: Kind, over: bool) -> u32
-    ensures { λ r. ⌜ r ≡ tagFaultAt (now (file .entry)) i kind over ⌝ }
-{
-    if is_barred(kind) {
-        return 7;
-    }
-    if over {
-        return 4;
-    }
-    faults::tag_fault(file, i, kind)
+    faults::verdict_of(kind, g, bad)
 }
 
 // Has an element of that kind a text of its own?
-fn is_worded(kind: Kind) -> bool
+fn is_worded(kind: usize) -> bool
     ensures { λ r. ⌜ r ≡ worded kind ⌝ }
 {
     match kind {
-        Kind::Version | Kind::Expression | Kind::Channel => true,
+        kinds::VERSION => true,
+        kinds::CHANNEL => true,
+        kinds::EXPRESSION => true,
         _ => false,
     }
 }
 
 // Is an element of that kind looked at? Not behind a fault.
-fn is_looked_at(walk: Walk, kind: Kind) -> bool
+fn is_looked_at(walk: Walk, kind: usize) -> bool
     ensures { λ r. ⌜ ((ms : List ℕ) → r ≡ looked (found walk ms) kind) ⌝ }
 {
     let fault = walk.fault;
     if fault.number != 0 {
         return false;
     }
-    if is_carried(kind) {
+    if kinds::is_carried(kind) {
         return true;
     }
-    is_barred(kind)
+    kinds::is_barred(kind)
 }
 
 // Over the element where the walk stands.
 fn pass(file: &[u8], walk: Walk) -> Walk
-    ensures { λ r. ⌜ ((ms : List ℕ) → found r ms ≡ found walk ms) × (r .at ≡ skipped (now (file .entry)) (walk .at)) ⌝ }
+    ensures { λ r. ⌜ ((ms : List ℕ) → found r ms ≡ found walk ms) × (r .at ≡ skipped (now (file .entry)) (walk .at)) × (r .end ≡ walk .end) ⌝ }
 {
     let end = elements::skip(file, walk.at);
     move_to(walk, end)
 }
 
 // The element where the walk stands, of that kind, in which elements nest at most `left` deep, and all known elements in it. Stray text shows only behind it.
-fn visit(file: &[u8], kind: Kind, over: bool, left: usize, walk: Walk, marks: &mut [usize]) -> Walk
-    requires { ⌜ Ready (now file) left (walk .at) (now marks) ⌝ }
-    ensures { λ r. ⌜ VisitedIs (now (file .entry)) (walk .at) (visitFrom (now (file .entry)) left (walk .at) kind over (found walk (now (marks .entry)))) r (now (marks .exit)) ⌝ }
+fn visit(file: &[u8], kind: usize, over: bool, left: usize, walk: Walk, words: &mut [u32]) -> Walk
+    requires { ⌜ Ready (now file) left (walk .at) (now words) × Sound (walk .end) (now words) ⌝ }
+    ensures { λ r. ⌜ VisitedIs (now (file .entry)) (walk .at) (visitFrom (now (file .entry)) left (walk .at) kind over (found walk (now (words .entry)))) r (now (words .exit)) ⌝ }
 {
     let i = walk.at;
     if !is_looked_at(walk, kind) {
         return pass(file, walk);
     }
-    if tag_fault_at(file, i, kind, over) != 0 {
-        let number = fault_at(file, i, kind, over);
-        let faulty = refused(walk, number, i);
+    let tag = element::gather(file, i, kind);
+    let gathered = tag.gathered;
+    let body = tag.body;
+    let misspelt = faults::is_misspelt(file, i, kind);
+    if fault_of(kind, over, gathered, misspelt) != 0 {
+        let bad = faults::bad_text(file, i, kind);
+        let first = fault_of(kind, over, gathered, bad);
+        let faulty = refused(walk, first, i);
         return pass(file, faulty);
     }
-    let entered = enter(walk, kind, marks);
-    let inside = visit_inside(file, kind, left - 1, entered, marks);
+    let number = fields::text_number(file, i, kind);
+    let entered = enter(walk, kind, number, gathered, words);
+    let inside = visit_inside(file, kind, body, left - 1, entered, words);
     let all = inside.walk;
     if !is_worded(kind) & inside.stray {
         let strayed = refused(walk, 6, i);
@@ -411,12 +298,19 @@ fn visit(file: &[u8], kind: Kind, over: bool, left: usize, walk: Walk, marks: &m
 
 // All known elements in the element where the walk stands, which is of that kind and has been entered; elements nest at most `left` deep in it.
 // In a file of good shape its end tag comes before anything that is broken.
-fn visit_inside(file: &[u8], kind: Kind, left: usize, entered: Walk, marks: &mut [usize]) -> Inside
-    requires { ⌜ Ready (now file) (suc left) (entered .at) (now marks) ⌝ }
-    ensures { λ r. ⌜ InsideIs (now (file .entry)) (entered .at) (visitBody (visitFrom (now (file .entry)) left) (now (file .entry)) kind (found entered (now (marks .entry))) (contentAt (now (file .entry)) (entered .at))) r (now (marks .exit)) ⌝ }
+fn visit_inside(
+    file: &[u8],
+    kind: usize,
+    body: Body,
+    left: usize,
+    entered: Walk,
+    words: &mut [u32],
+) -> Inside
+    requires { ⌜ Ready (now file) (suc left) (entered .at) (now words) × Sound (entered .end) (now words) × (body ≡ contentAt (now file) (entered .at)) ⌝ }
+    ensures { λ r. ⌜ InsideIs (now (file .entry)) (entered .at) (visitBody (visitFrom (now (file .entry)) left) (now (file .entry)) kind (found entered (now (words .entry))) (contentAt (now (file .entry)) (entered .at))) r (now (words .exit)) ⌝ }
 {
     let i = entered.at;
-    match tags::content_at(file, i) {
+    match body {
         Body::Broken => close(entered, kind, none_seen(), i, false),
         Body::Empty(e) => close(entered, kind, none_seen(), e, false),
         Body::Open(o) => {
@@ -435,7 +329,7 @@ fn visit_inside(file: &[u8], kind: Kind, left: usize, entered: Walk, marks: &mut
                     Item::Child => {
                         let child = child_at(file, all.at, kind);
                         let surplus = is_over(kind, child, seen);
-                        all = visit(file, child, surplus, left, all, marks);
+                        all = visit(file, child, surplus, left, all, words);
                         seen = mark(seen, child);
                     }
                     Item::Close(e) => {
@@ -452,24 +346,21 @@ fn visit_inside(file: &[u8], kind: Kind, left: usize, entered: Walk, marks: &mut
 }
 
 // A required element that lacks comes after every fault of an element.
-fn settle(walk: Walk, root: usize, marks: &[usize]) -> Index
-    requires { ⌜ length (now marks) ≡ 382 ⌝ }
-    ensures { λ r. ⌜ r ≡ indexAt root (found walk (now (marks .entry))) ⌝ }
+fn settle(walk: Walk, root: usize) -> Found
+    ensures { λ r. ⌜ ((ms : List ℕ) → Sound (walk .end) ms → Holds r ms (indexAt root (found walk ms))) ⌝ }
 {
     let fault = walk.fault;
     if (fault.number == 0) & walk.lacking {
         return refuse(8, root);
     }
-    let entries = entries_of(marks, walk.count);
-    Index {
+    Found {
         fault,
-        count: walk.count,
-        entries,
+        end: walk.end,
     }
 }
 
 fn none_found(at: usize) -> Walk
-    ensures { λ r. ⌜ ((ms : List ℕ) → found r ms ≡ noneFound) × (r .at ≡ at) ⌝ }
+    ensures { λ r. ⌜ ((ms : List ℕ) → found r ms ≡ noneFound) × (r .at ≡ at) × (r .end ≡ 0) ⌝ }
 {
     Walk {
         at,
@@ -477,33 +368,32 @@ fn none_found(at: usize) -> Walk
             number: 0,
             place: 0,
         },
-        count: 0,
+        end: 0,
         lacking: false,
     }
 }
 
 // The index of a file of good shape.
-fn index_whole(file: &[u8]) -> Index
-    requires { ⌜ Shaped (now file) Whole ⌝ }
-    ensures { λ r. ⌜ r ≡ indexed (now (file .entry)) ⌝ }
+fn index_whole(file: &[u8], words: &mut [u32]) -> Found
+    requires { ⌜ Shaped (now file) Whole × (length (now words) ≡ 3498) ⌝ }
+    ensures { λ r. ⌜ Holds r (now (words .exit)) (indexed (now (file .entry))) ⌝ }
 {
     let root = items::root_at(file);
-    let kind = child_at(file, root, Kind::File);
-    if is_carried(kind) {
-        let mut marks = [0; 382];
-        let all = visit(file, kind, false, 8, none_found(root), &mut marks);
-        return settle(all, root, &marks);
+    let kind = child_at(file, root, kinds::FILE);
+    if kinds::is_carried(kind) {
+        let all = visit(file, kind, false, 8, none_found(root), words);
+        return settle(all, root);
     }
     refuse(3, root)
 }
 
-// The known elements of a file, or the first of its refusals 1 to 8.
-pub fn read_index(file: &[u8]) -> Index
-    ensures { λ r. ⌜ Indexes (now (file .entry)) r ⌝ }
+// The known elements of a file at the front of the words, or the first of its refusals 1 to 8. Behind them nothing is said of the words.
+pub fn read_index(file: &[u8], words: &mut [u32; 3498]) -> Found
+    ensures { λ r. ⌜ IndexedIn (now (file .entry)) r (now (words .exit)) ⌝ }
 {
     match xml::read_shape(file) {
         Shape::TooLong => refuse(1, 32768),
         Shape::Broken(p) => refuse(2, p),
-        Shape::Whole => index_whole(file),
+        Shape::Whole => index_whole(file, words),
     }
 }

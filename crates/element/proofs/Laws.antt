@@ -1,12 +1,11 @@
--- What the answers are on a file of good shape: the faults and values of specs/Element.antt.
+-- What the answers are on a file of good shape: the faults and values of crates/file_rules/specs/Element.antt.
 use Prim.Native.Nat.{ℕ, suc, _≤_}
 use Prim.Native.String.{String}
 use native.Mathlib.Omega.{arith}
 use mathlib.Core.Path.{_≡_, refl, sym, ap, _∙_, subst}
 use mathlib.Core.List.{List, [], _∷_, _++_}
 use mathlib.Core.Bool.{Bool, true, false, not, cond, _&&_, _||_}
-use lib.Dec.{ltb}
-use lib.ListN.{length, getD}
+use lib.ListN.{length}
 use lib.Seq.{slice}
 use Rattle.text.specs.Texts.{bytes, same}
 use Rattle.lists.proofs.Cases.{by-cases}
@@ -16,25 +15,18 @@ use Rattle.shape.specs.Text.{joined, trimmed}
 use Rattle.walk.specs.StandsCode.{ElementAt}
 use Rattle.walk.specs.WalkCode as walk
 use Rattle.walk.proofs.WalkLaws.{element-law}
-use Rattle.schema.specs.declared.Kind.{Kind}
-use Rattle.schema.specs.Schema.{Parent, _to_, oneOf, rulesOf}
-use Rattle.schema.specs.SchemaCode.{kindName, requiredIn}
-use Rattle.schema.proofs.Laws.{rules-few, required-first, rules-distinct}
-use Rattle.file_rules.specs.Element.{Known, Fault, _at_if_, isBad, isNotCarried, worthBy, givenValue, given, has, valueOf, channelOf, tooMany, misfit, crossed, misworded, ownFaults}
-use Rattle.element.specs.ElementCode.{nothingGathered, gatheredAt, gatheredList, isKind, unpaired, lacking, boundsCrossed, numbered, badText, verdict, ownFault, firstNumber, valueAt}
+use Rattle.schema.specs.Schema.{Rule, _to_, oneOf, rulesOf}
+use Rattle.schema.specs.SchemaCode.{attributes, kindName, knows}
+use Rattle.schema.proofs.Laws.{Listed, listed}
+use Rattle.file_rules.specs.Element.{Known, Fault, _at_if_, isBad, isNotCarried, goodOf, worthBy, givenValue, given, has, valueOf, channelOf, tooMany, misfit, crossed, misworded, ownFaults}
+use Rattle.element.specs.declared.Gathered.{Gathered}
+use Rattle.element.specs.ElementCode.{nothingGathered, gatheredAt, gatheredList, flagOf, numberOf, isKind, lacksRequired, unpaired, lacking, boundsCrossed, numbered, textNumber, badText, verdict, ownFault, firstNumber, valueAt}
 use Rattle.lists.proofs.Parts.{neither}
-use Rattle.element.proofs.Gathers.{rulesFor, slotOf, five-is, bad-is, not-carried-is}
-use Rattle.element.proofs.Forms.{of, Fit, lacksIn, form-of, odd-is, crossed-is, lack-is, value-at, given-at}
+use Rattle.element.proofs.Gathers.{five-is, bad-is, not-carried-is, given-is, spelled-is}
+use Rattle.element.proofs.Required.{lacksBy, lacks-is}
 use Rattle.element.proofs.Texts.{short-law, stray-law}
 use Rattle.element.proofs.Tags.{gathers, spells}
 use Rattle.lists.specs.Lists.{any}
-use Rattle.lists.specs.FlagsCode.{lacksFirst}
-
-few : (kind : Kind) → length (rulesFor kind) ≤ 12
-few kind = omega (arith, rules-few kind)
-
-fit : (kind : Kind) (l : List Attribute) → gatheredList kind l nothingGathered .five ≡ false → Fit kind l
-fit kind l e = record { few = few kind; distinct = rules-distinct (kindName kind); first = required-first kind; five = e }
 
 -- ---- the faults of an element
 join : (a b c d : Bool) → (a || b || c || d) ≡ (a || (b || (c || d)))
@@ -156,59 +148,81 @@ clean-law k e =
     record
     { barred = t; over = a .0; fits = b .0; good = v .0; bounds = v .1; words = u .1; carried = (zero-if (barredIn k) 6 0 (c .1)) .0 })
 
--- ---- an element of a kind, from the list of its attributes
-module _ (kind : Kind) (p : Parent) (w : List (List ℕ)) (i : ℕ) (l : List Attribute) (its : Items) where
-  misfit-is : misfit (of kind p w i l its)
-      ≡ (gatheredList kind l nothingGathered .five || lacking kind (gatheredList kind l nothingGathered .has))
-  unfolding misfit lacking
+-- ---- what is gathered of an element
+abbrev pub glean : Known → Gathered
+glean k = gatheredList (rulesOf (k .name)) (k .attributes) nothingGathered
+
+module _ (k : Known) where
+  abbrev rs : List Rule
+  rs = rulesOf (k .name)
+
+  abbrev lists : (n : List ℕ) → knows rs n ≡ true → Listed n
+  lists = listed (k .name)
+
+  -- where no attribute misfits, each by its name
+  module _ (fit : glean k .five ≡ false) where
+    has-here : (n : String) → Listed (bytes n) → flagOf (glean k .has) n ≡ has k n
+    has-here n = given-is rs lists (k .attributes) fit (bytes n)
+
+    value-here : (n : String) → Listed (bytes n) → numberOf (glean k .values) n ≡ valueOf k n
+    value-here n = spelled-is rs lists (k .attributes) fit (bytes n)
+
+    odd-is : unpaired (glean k .has) ≡ (has k "dlc" && not (has k "dlc_min") || has k "dlc_min" && not (has k "dlc"))
+    unfolding unpaired attributes any same bytes
+    odd-is = rw (has-here "dlc" refl, has-here "dlc_min" refl)
+
+    crossed-is : boundsCrossed (glean k .has) (glean k .values) ≡ crossed k
+    unfolding boundsCrossed crossed attributes any same bytes
+    crossed-is =
+        rw (has-here "can_ext" refl, value-here "can_ext" refl)
+        (rw (value-here "msgid" refl, value-here "msgid_min" refl, value-here "dlc" refl, value-here "dlc_min" refl))
+
+  misfit-is : misfit k ≡ (glean k .five || lacking rs (glean k .has))
+  unfolding misfit lacking knows
   misfit-is =
-      let o = given (bytes "dlc") l && not (given (bytes "dlc_min") l) in
-      let u = given (bytes "dlc_min") l && not (given (bytes "dlc") l) in
-      ap (λ (b : Bool). b || lacksIn kind l || o || u) (sym (five-is kind (few kind) l))
-      ∙ (join (gatheredList kind l nothingGathered .five) (lacksIn kind l) o u
-      ∙ by-cases (gatheredList kind l nothingGathered .five)
-      (λ t. rw t)
+      let got : List ℕ → Bool = λ n. given n (k .attributes) in
+      let o = has k "dlc" && not (has k "dlc_min") in
+      let u = has k "dlc_min" && not (has k "dlc") in
+      let v = glean k .five in
+      ap (λ (b : Bool). b || lacksBy got rs || o || u) (sym (five-is rs lists (k .attributes)))
+      ∙ (join v (lacksBy got rs) o u ∙ by-cases v (λ t. rw t)
       (λ t.
-      let x = fit kind l t in
-      rw (t, lack-is kind l x)
-      (by-cases (lacksFirst (requiredIn (rulesFor kind)) (gatheredList kind l nothingGathered .has))
-      (λ h. rw h)
-      (λ h. rw (h, ← odd-is kind (form-of kind) l x (lack-is kind l x ∙ h))))))
+      ap (λ (b : Bool). v || (b || (o || u))) (lacks-is rs lists got (glean k .has) (given-is rs lists (k .attributes) t))
+      ∙ ap (λ (b : Bool). v || (lacksRequired rs (glean k .has) || b)) (sym (odd-is t))))
 
-  crosses : Fit kind l → lacking kind (gatheredList kind l nothingGathered .has) ≡ false
-      → crossed (of kind p w i l its) ≡ boundsCrossed kind (gatheredList kind l nothingGathered .values)
-  unfolding crossed lacking
-  crosses x e =
-      crossed-is kind (form-of kind) l x
-      (lack-is kind l x ∙ (neither (lacksFirst (requiredIn (rulesFor kind)) (gatheredList kind l nothingGathered .has))
-      (unpaired kind (gatheredList kind l nothingGathered .has)) e) .0)
+  module _ (m : misfit k ≡ false) where
+    fits : glean k .five ≡ false
+    fits = neither (glean k .five) (lacking rs (glean k .has)) (sym misfit-is ∙ m) .0
 
-  verdict-is : oneOf (p .barred) (kindName kind) ≡ false → tooMany (of kind p w i l its) ≡ false
-      → verdict kind (misworded (of kind p w i l its)) (gatheredList kind l nothingGathered) ≡ firstNumber (ownFaults (of kind p w i l its))
+    pub value-law : (n : String) → Listed (bytes n) → numberOf (glean k .values) n ≡ valueOf k n
+    value-law = value-here fits
+
+    pub has-law : (n : String) → Listed (bytes n) → flagOf (glean k .has) n ≡ has k n
+    has-law = has-here fits
+
+  verdict-is : oneOf (k .parent .barred) (k .name) ≡ false → tooMany k ≡ false
+      → verdict rs (misworded k) (glean k) ≡ firstNumber (ownFaults k)
   unfolding verdict
   verdict-is h m =
-      let k = of kind p w i l its in
-      let g = gatheredList kind l nothingGathered in
+      let g = glean k in
       let rest : ℕ = cond (badIn k || crossed k || misworded k) 6 (cond (barredIn k) 7 0) in
       sym (first-is k h ∙ ap (λ (b : Bool). cond b 4 (cond (misfit k) 5 rest)) m ∙ ap (λ (b : Bool). cond b 5 rest) misfit-is
-      ∙ by-cases (g .five || lacking kind (g .has))
+      ∙ by-cases (g .five || lacking rs (g .has))
       (λ t. rw t)
       (λ t.
-      let v = neither (g .five) (lacking kind (g .has)) t in
-      let x = fit kind l (v .0) in
-      let c : crossed k ≡ boundsCrossed kind (g .values) = crosses x (v .1) in
-      ap (cond (g .five || lacking kind (g .has)) 5)
-      (rw (c, ← bad-is kind (few kind) l (v .0), ← not-carried-is kind (few kind) l (v .0)))))
+      let v = neither (g .five) (lacking rs (g .has)) t .0 in
+      ap (cond (g .five || lacking rs (g .has)) 5)
+      (rw (← crossed-is v, ← bad-is rs lists (k .attributes) v, ← not-carried-is rs lists (k .attributes) v))))
 
 -- ---- an element that stands in a file
 module _ (f : List ℕ) (d i p : ℕ) (n : List ℕ) (l : List Attribute) (its : Items) (e : ℕ) (y : ElementAt f (suc d) i (node p n l its) e)
   where
     -- what is gathered from its start tag is gathered from the list of its attributes
-    pub gather-law : (kind : Kind) → gatheredAt kind f i ≡ gatheredList kind l nothingGathered
+    pub gather-law : (rs : List Rule) → gatheredAt rs f i ≡ gatheredList rs l nothingGathered
     unfolding gatheredAt
-    gather-law kind =
+    gather-law rs =
         let z = element-law f d i (node p n l its) e y in
-        gathers kind f d its e (suc (length f)) (walk.nameAt f i .to) l nothingGathered (z .2) (omega arith)
+        gathers rs f d its e (suc (length f)) (walk.nameAt f i .to) l nothingGathered (z .2) (omega arith)
 
     -- the value of an attribute, where it is given; that the part lies in the file is `value-bounds`
     pub spelled-law : (m : List ℕ) → given m l ≡ true → slice (valueAt m f i .from) (valueAt m f i .to) f ≡ givenValue m l
@@ -216,35 +230,6 @@ module _ (f : List ℕ) (d i p : ℕ) (n : List ℕ) (l : List Attribute) (its :
     spelled-law m t =
         let z = element-law f d i (node p n l its) e y in
         spells m f d its e (suc (length f)) (walk.nameAt f i .to) l (z .2) (omega arith) t
-
--- an element is of a kind whose name it has
-of-kind : (k : Known) (kind : Kind) → k .name ≡ kindName kind → of kind (k .parent) (k .earlier) (k .place) (k .attributes) (k .items) ≡ k
-of-kind k kind e =
-    ap
-    (λ (n : List ℕ). let x : Known = record {
-      parent = k .parent;
-      earlier = k .earlier;
-      place = k .place;
-      name = n;
-      attributes = k .attributes;
-      items = k .items;
-    } in x) (sym e)
-
-module _ (k : Known) (kind : Kind) (named : k .name ≡ kindName kind) where
-  -- a fit element has its values in the slots of its rules
-  fits-named : misfit k ≡ false → Fit kind (k .attributes)
-  fits-named m =
-      let e = misfit-is kind (k .parent) (k .earlier) (k .place) (k .attributes) (k .items) in
-      let g = gatheredList kind (k .attributes) nothingGathered in
-      fit kind (k .attributes) ((neither (g .five) (lacking kind (g .has)) (sym e ∙ (ap misfit (of-kind k kind named) ∙ m))) .0)
-
-  module _ (m : misfit k ≡ false) (n : String) (s : ℕ) (slot : slotOf kind (bytes n) ≡ s) (low : ltb s 12 ≡ true) where
-    pub value-law : getD (gatheredList kind (k .attributes) nothingGathered .values) s 0 ≡ valueOf k n
-    value-law =
-        value-at kind (k .attributes) (fits-named m) n s slot low ∙ ap (λ (x : Known). valueOf x n) (of-kind k kind named)
-
-    pub has-law : getD (gatheredList kind (k .attributes) nothingGathered .has) s false ≡ has k n
-    has-law = given-at kind (k .attributes) (fits-named m) n s slot low
 
 -- is the text t, or stray text, wrong in the element n
 abbrev wording : List ℕ → List ℕ → Bool → Bool
@@ -262,8 +247,13 @@ module _ (k : Known) (f : List ℕ) (d e : ℕ) (y : ElementAt f (suc d) (k .pla
   pub channel-law : numbered f (k .place) ≡ channelOf k
   channel-law = ap (worthOf (0 to 4)) (short-law f (suc d) (k .place) (k .place) (k .name) (k .attributes) (k .items) e y deep room)
 
+  pub text-law : (kind : ℕ) → k .name ≡ kindName kind
+      → textNumber kind f (k .place) ≡ cond (same (k .name) (bytes "CHANNEL")) (goodOf (channelOf k)) 0
+  unfolding textNumber
+  text-law kind named = rw (channel-law, named)
+
   -- its text
-  words-law : (kind : Kind) → k .name ≡ kindName kind → badText kind f (k .place) ≡ misworded k
+  words-law : (kind : ℕ) → k .name ≡ kindName kind → badText kind f (k .place) ≡ misworded k
   unfolding badText misworded
   words-law kind named =
       let tx = trimmed (joined (k .items)) in
@@ -273,14 +263,12 @@ module _ (k : Known) (f : List ℕ) (d e : ℕ) (y : ElementAt f (suc d) (k .pla
       ∙ ap (wording (kindName kind) tx) (stray-law f (suc d) (k .place) (k .place) (k .name) (k .attributes) (k .items) e y deep)
       ∙ ap (λ (n : List ℕ). wording n tx (not (same tx []))) (sym named)
 
-  pub fault-law : (kind : Kind) → k .name ≡ kindName kind → oneOf (k .parent .barred) (k .name) ≡ false → tooMany k ≡ false
+  pub fault-law : (kind : ℕ) → k .name ≡ kindName kind → oneOf (k .parent .barred) (k .name) ≡ false → tooMany k ≡ false
       → ownFault kind f (k .place) ≡ firstNumber (ownFaults k)
   unfolding ownFault
   fault-law kind named h m =
-      let x = of kind (k .parent) (k .earlier) (k .place) (k .attributes) (k .items) in
-      let q = of-kind k kind named in
-      ap (λ (b : Bool). verdict kind b (gatheredAt kind f (k .place))) (words-law kind named ∙ sym (ap misworded q))
-      ∙ (ap (verdict kind (misworded x)) (gather-law f d (k .place) (k .place) (k .name) (k .attributes) (k .items) e y kind)
-      ∙ (verdict-is kind (k .parent) (k .earlier) (k .place) (k .attributes) (k .items) (sym (ap (oneOf (k .parent .barred)) named) ∙ h)
-      (ap tooMany q ∙ m)
-      ∙ ap (λ (z : Known). firstNumber (ownFaults z)) q))
+      let i = k .place in
+      ap (λ (b : Bool). verdict (rulesOf (kindName kind)) b (gatheredAt (rulesOf (kindName kind)) f i)) (words-law kind named)
+      ∙ (ap (λ (n : List ℕ). verdict (rulesOf n) (misworded k) (gatheredAt (rulesOf n) f i)) (sym named)
+      ∙ (ap (verdict (rulesOf (k .name)) (misworded k))
+      (gather-law f d i i (k .name) (k .attributes) (k .items) e y (rulesOf (k .name))) ∙ verdict-is k h m))

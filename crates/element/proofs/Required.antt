@@ -1,66 +1,107 @@
--- Which required attributes lack, from the slots that are held.
-use Prim.Native.Nat.{ℕ, suc, _+_, _-_, _≤_, _<_}
+-- Which required attributes lack, from the numbers that are there.
+use Prim.Native.Nat.{ℕ, _^_, _<_}
 use native.Mathlib.Omega.{arith}
-use native.Mathlib.Numerals.{add-one}
 use mathlib.Core.Path.{_≡_, refl, sym, ap, _∙_}
-use mathlib.Core.List.{List, [], _∷_}
-use mathlib.Core.Bool.{Bool, true, false, not, _&&_, _||_, true≢false}
+use mathlib.Core.List.{List, [], _∷_, map}
+use mathlib.Core.Bool.{Bool, true, false, not, _&&_, _||_, or-true, true≢false, Bool·not-not}
+use lib.Bits.{bitAnd}
 use lib.Dec.{eqb}
-use lib.ListN.{length, getD, drop}
-use lib.Seq.{drop-cons}
-use borrow.Author.Tests.{eqb-true, not-true}
+use lib.ListN.{getD, drop}
+use borrow.Author.Tests.{not-true}
 use Rattle.text.specs.Texts.{bytes, same}
-use Rattle.lists.proofs.Cases.{by-cases}
 use Rattle.text.proofs.Equal.{same-self, same-equal}
-use Rattle.schema.specs.Schema.{Rule}
-use Rattle.schema.specs.SchemaCode.{askedFrom, requiredIn, firstRequired, apart}
-use Rattle.file_rules.proofs.ElementLaws.{knows, knows-here, knows-later, slot-here, slot-later}
 use Rattle.lists.specs.Lists.{any}
-use Rattle.lists.specs.FlagsCode.{lacksFirst}
+use Rattle.lists.specs.BitsCode.{upto, hasBit, Marks}
+use Rattle.lists.proofs.Cases.{by-cases, le-or-lt}
+use Rattle.lists.proofs.Parts.{and-left, and-right}
+use Rattle.lists.proofs.BitLaws.{any-upto-found, any-upto-back, all-in}
+use Rattle.schema.specs.Schema.{Rule, oneOf}
+use Rattle.schema.specs.SchemaCode.{attributes, attributeCount, attributeName, attributeOf, knows, demands}
+use Rattle.schema.proofs.Laws.{Listed, number-low, number-back, number-own}
+use Rattle.schema.proofs.Tables.{past-last}
+use Rattle.element.specs.ElementCode.{lacksRequired}
 
-pub both : (t u : Bool) → (t && u) ≡ true → (t ≡ true) × (u ≡ true)
-both true u e = (refl, e)
-both false u e = absurd (true≢false (sym e))
+-- ---- by the sets of numbers
+any-marked : (f g q : ℕ → Bool) (l : List ℕ) → map f l ≡ map g l → any (λ k. f k && q k) l ≡ any (λ k. g k && q k) l
+unfolding any
+any-marked f g q [] e = refl
+any-marked f g q (k ∷ l) e =
+    rw (ap (λ (s : List Bool). getD s 0 false) e, any-marked f g q l (ap (drop 1) e))
 
--- a name with a rule is not one without
-pub names-apart : (rs : List Rule) (m n : List ℕ) → knows rs m ≡ true → knows rs n ≡ false → same m n ≡ false
-names-apart rs m n k l =
-    by-cases (same m n) (λ t. absurd (true≢false (sym k ∙ (ap (knows rs) (same-equal m n t) ∙ l)))) (λ t. t)
+pub lacks-marked : (rs : List Rule) (h marks : ℕ) → marks < 2 ^ 64 → Marks 64 (λ a. demands rs (attributeName a)) marks
+    → (b : Bool) → b ≡ eqb (bitAnd h marks) marks → not b ≡ lacksRequired rs h
+unfolding lacksRequired
+lacks-marked rs h marks low w b e =
+    ap not (e ∙ all-in h marks 64 low)
+    ∙ (Bool·not-not _ ∙ any-marked (hasBit marks) (λ a. demands rs (attributeName a)) (λ a. not (hasBit h a)) (upto 64) w)
 
--- no rule is of a required attribute
-none-required : (p : Rule → Bool) (rs : List Rule) → requiredIn rs ≡ 0 → any (λ r. r .required && p r) rs ≡ false
-unfolding any requiredIn
-none-required p [] e = refl
-none-required p (r ∷ rs) e =
-    by-cases (r .required)
-    (λ t. absurd (let q : 1 + requiredIn rs ≡ 0 = rw t at e in omega arith))
-    (λ t. let q : requiredIn rs ≡ 0 = rw t at e in rw t (none-required p rs q))
+-- ---- by the rules
+agree : (t u : Bool) → (t ≡ true → u ≡ true) → (u ≡ true → t ≡ true) → t ≡ u
+agree true u f g = sym (f refl)
+agree false true f g = g refl
+agree false false f g = refl
 
-drop-held : (h : List Bool) (i : ℕ) → i < length h → drop i h ≡ getD h i false ∷ drop (i + 1) h
-drop-held h i l = rw (add-one, drop-cons h i false)
+or-second : (t u : Bool) → u ≡ true → (t || u) ≡ true
+or-second t u e = rw e (or-true t)
 
--- h holds at the slot of each rule what `got` says of its name
-pub lacks-is : (got : List ℕ → Bool) (h : List Bool) (rs : List Rule) (i : ℕ) → i + length rs ≤ length h → apart rs ≡ true
-    → firstRequired rs ≡ true
-    → ((n : List ℕ) → knows rs n ≡ true → getD h (askedFrom i rs n .slot) false ≡ got n)
-    → any (λ r. r .required && not (got (bytes (r .name)))) rs ≡ lacksFirst (requiredIn rs) (drop i h)
-unfolding any requiredIn lacksFirst apart firstRequired
-lacks-is got h [] i l a f e = refl
-lacks-is got h (r ∷ rs) i l a f e =
-    let a′ = both (not (knows rs (bytes (r .name)))) (apart rs) a in
-    let f′ = both (r .required || eqb (requiredIn rs) 0) (firstRequired rs) f in
-    by-cases (r .required)
+-- a rule requires its attribute, which is not there
+abbrev pub lacksBy : (List ℕ → Bool) → List Rule → Bool
+lacksBy got rs = any (λ r. r .required && not (got (bytes (r .name)))) rs
+
+module _ (got : List ℕ → Bool) where
+  demand-found : (rs : List Rule) → lacksBy got rs ≡ true → (n : List ℕ) × (demands rs n ≡ true) × (got n ≡ false)
+  unfolding any demands
+  demand-found [] e = absurd (true≢false (sym e))
+  demand-found (r ∷ rs) e =
+      let n = bytes (r .name) in
+      by-cases (r .required && not (got n))
+      (λ t. (n, rw (and-left (r .required) _ t, same-self n), not-true (got n) (and-right (r .required) _ t)))
+      (λ t.
+      let w = demand-found rs (rw t at e) in (w .0, or-second (r .required && same (w .0) n) (demands rs (w .0)) (w .1), w .2))
+
+  demand-back : (rs : List Rule) (n : List ℕ) → demands rs n ≡ true → got n ≡ false → lacksBy got rs ≡ true
+  unfolding any demands
+  demand-back [] n d g = absurd (true≢false (sym d))
+  demand-back (r ∷ rs) n d g =
+      by-cases (r .required && same n (bytes (r .name)))
+      (λ t.
+      let w : got (bytes (r .name)) ≡ false =
+      ap got (sym (same-equal n (bytes (r .name)) (and-right (r .required) (same n (bytes (r .name))) t))) ∙ g in
+      rw (and-left (r .required) _ t, w))
+      (λ t. or-second (r .required && not (got (bytes (r .name)))) (lacksBy got rs) (demand-back rs n (rw t at d) g))
+
+demands-known : (rs : List Rule) (n : List ℕ) → demands rs n ≡ true → knows rs n ≡ true
+unfolding any demands knows
+demands-known [] n d = d
+demands-known (r ∷ rs) n d =
+    by-cases (r .required && same n (bytes (r .name)))
+    (λ t. rw (and-right (r .required) (same n (bytes (r .name))) t))
+    (λ t. or-second (same n (bytes (r .name))) (knows rs n) (demands-known rs n (rw t at d)))
+
+-- behind the last number there is no name
+listed-low : (a : ℕ) → Listed (attributeName a) → a < attributeCount
+unfolding attributes any same bytes
+listed-low a o =
+    le-or-lt attributeCount a
+    (λ h. absurd (true≢false (sym o ∙ sym (past-last attributes attributeCount refl (oneOf attributes) false refl a h)))) (λ h. h)
+
+-- h holds at the number of each listed name what `got` says of it
+pub lacks-is : (rs : List Rule) (lists : (n : List ℕ) → knows rs n ≡ true → Listed n) (got : List ℕ → Bool) (h : ℕ)
+    → ((n : List ℕ) → Listed n → hasBit h (attributeOf n) ≡ got n) → lacksBy got rs ≡ lacksRequired rs h
+unfolding lacksRequired
+lacks-is rs lists got h e =
+    agree (lacksBy got rs) (any lack (upto 64))
     (λ t.
-    let here : getD h i false
-    ≡ got (bytes (r .name)) = sym (ap (λ (s : ℕ). getD h s false) (slot-here r rs (bytes (r .name)) i (same-self (bytes (r .name)))))
-    ∙ e (bytes (r .name)) (knows-here r rs (bytes (r .name)) (same-self (bytes (r .name)))) in
-    let o : 1 + requiredIn rs ≡ suc (requiredIn rs) = omega arith in
-    rw (t, o, drop-held h i (omega arith), here)
-    (ap (λ (b : Bool). not (got (bytes (r .name))) || b) (lacks-is got h rs (i + 1) (omega arith) (a′ .1) (f′ .1)
-    (λ n k.
-    let other = names-apart rs n (bytes (r .name)) k (not-true (knows rs (bytes (r .name))) (a′ .0)) in
-    sym (ap (λ (s : ℕ). getD h s false) (slot-later r rs n i other)) ∙ e n (knows-later r rs n other ∙ k)))))
+    let w = demand-found got rs t in
+    let o = lists (w .0) (demands-known rs (w .0) (w .1)) in
+    any-upto-back lack 64 (attributeOf (w .0)) (omega (arith, number-low (w .0) o)) (rw (number-back (w .0) o, w .1, e (w .0) o, w .2)))
     (λ t.
-    let z : eqb (requiredIn rs) 0 ≡ true = rw t at (f′ .0) in
-    let q = eqb-true (requiredIn rs) 0 z in
-    rw (t, q) (none-required (λ x. not (got (bytes (x .name)))) rs q))
+    let w = any-upto-found lack 64 t in
+    let n = attributeName (w .0) in
+    let d = and-left (demands rs n) _ (w .2) in
+    let o = lists n (demands-known rs n d) in
+    demand-back got rs n d
+    (sym (e n o) ∙ (ap (hasBit h) (number-own (w .0) (listed-low (w .0) o)) ∙ not-true _ (and-right (demands rs n) _ (w .2)))))
+  where
+    lack : ℕ → Bool
+    lack a = demands rs (attributeName a) && not (hasBit h a)

@@ -15,43 +15,42 @@ use Rattle.walk.specs.StandsCode.{StartAt}
 use Rattle.walk.specs.WalkCode as walk
 use Rattle.walk.proofs.Bounds.{part-over}
 use Rattle.walk.proofs.WalkLaws.{PartTold, part-law}
-use Rattle.schema.specs.declared.Kind.{Kind}
-use Rattle.schema.specs.SchemaCode.{askedOf}
+use Rattle.schema.specs.Schema.{Rule}
 use Rattle.file_rules.specs.Element.{givenValue, given}
 use Rattle.element.specs.declared.Gathered.{Gathered}
-use Rattle.element.specs.ElementCode.{judgedBy, gatherFrom, gatheredList, valueFrom}
+use Rattle.element.specs.ElementCode.{judged, gatherFrom, gatheredList, valueFrom}
 use Rattle.element.proofs.Gathers.{given-later}
 use Rattle.element.proofs.Turns.{gather-next, gather-last, value-here, value-next}
 use Rattle.lists.specs.Lists.{any}
 
-list-none : (kind : Kind) (l : List Attribute) (g : Gathered) → l ≡ [] → g ≡ gatheredList kind l g
+list-none : (rs : List Rule) (l : List Attribute) (g : Gathered) → l ≡ [] → g ≡ gatheredList rs l g
 unfolding gatheredList
-list-none kind l g e = rw e
+list-none rs l g e = rw e
 
-list-more : (kind : Kind) (l : List Attribute) (a : Attribute) (m : List Attribute) (g : Gathered) → l ≡ a ∷ m
-    → gatheredList kind m (judgedBy g (askedOf kind (a .name)) (a .value)) ≡ gatheredList kind l g
+list-more : (rs : List Rule) (l : List Attribute) (a : Attribute) (m : List Attribute) (g : Gathered) → l ≡ a ∷ m
+    → gatheredList rs m (judged rs g a) ≡ gatheredList rs l g
 unfolding gatheredList
-list-more kind l a m g e = rw e
+list-more rs l a m g e = rw e
 
 -- no start tag goes on behind the end of the file
 nowhere : (f : List ℕ) (d j : ℕ) (l : List Attribute) (k : Items) (e : ℕ) → StartAt f d j l k e → length f ≤ j → ⊥
 nowhere f d j l k e s h = subst (PartTold f d j l k e) (part-over f j h) (part-law f d j l k e s (walk.partAt f j) refl)
 
-pub gathers : (kind : Kind) (f : List ℕ) (d : ℕ) (k : Items) (e n j : ℕ) (l : List Attribute) (g : Gathered) → StartAt f d j l k e
-    → length f < n + j → gatherFrom kind f n j g ≡ gatheredList kind l g
-gathers kind f d k e zero j l g s h = absurd (nowhere f d j l k e s (omega arith))
-gathers kind f d k e (suc n) j l g s h =
-    by-part (walk.partAt f j) refl (part-law f d j l k e s (walk.partAt f j) refl) (λ m l′ g′ s′ h′. gathers kind f d k e n m l′ g′ s′ h′)
+pub gathers : (rs : List Rule) (f : List ℕ) (d : ℕ) (k : Items) (e n j : ℕ) (l : List Attribute) (g : Gathered) → StartAt f d j l k e
+    → length f < n + j → gatherFrom rs f n j g ≡ gatheredList rs l g
+gathers rs f d k e zero j l g s h = absurd (nowhere f d j l k e s (omega arith))
+gathers rs f d k e (suc n) j l g s h =
+    by-part (walk.partAt f j) refl (part-law f d j l k e s (walk.partAt f j) refl) (λ m l′ g′ s′ h′. gathers rs f d k e n m l′ g′ s′ h′)
   where
     by-part : (p : TagPart) → p ≡ walk.partAt f j → PartTold f d j l k e p
         → ((m : ℕ) (l′ : List Attribute) (g′ : Gathered) → StartAt f d m l′ k e → length f < n + m
-        → gatherFrom kind f n m g′ ≡ gatheredList kind l′ g′) → gatherFrom kind f (suc n) j g ≡ gatheredList kind l g
+        → gatherFrom rs f n m g′ ≡ gatheredList rs l′ g′) → gatherFrom rs f (suc n) j g ≡ gatheredList rs l g
     by-part (TagPart.Attribute a b c m) r x go =
-        gather-next kind f j g n a b c m r
-        ∙ (go (m + 1) (x .0) (judgedBy g (askedOf kind (slice a b f)) (slice c m f)) (x .2) (omega (arith, x .3))
-        ∙ list-more kind l (record { name = slice a b f; value = slice c m f }) (x .0) g (x .1))
-    by-part (TagPart.Open o) r x go = gather-last kind f j g n (TagPart.Open o) r tt ∙ list-none kind l g (x .0)
-    by-part (TagPart.Empty o) r x go = gather-last kind f j g n (TagPart.Empty o) r tt ∙ list-none kind l g (x .0)
+        gather-next rs f j g n a b c m r
+        ∙ (go (m + 1) (x .0) (judged rs g (record { name = slice a b f; value = slice c m f })) (x .2) (omega (arith, x .3))
+        ∙ list-more rs l (record { name = slice a b f; value = slice c m f }) (x .0) g (x .1))
+    by-part (TagPart.Open o) r x go = gather-last rs f j g n (TagPart.Open o) r tt ∙ list-none rs l g (x .0)
+    by-part (TagPart.Empty o) r x go = gather-last rs f j g n (TagPart.Empty o) r tt ∙ list-none rs l g (x .0)
     by-part TagPart.Broken r x go = absurd x
 
 module _ (n : List ℕ) (f : List ℕ) where

@@ -14,11 +14,9 @@ use Rattle.walk.specs.WalkCode as walk
 use Rattle.walk.proofs.Bounds.{PartFrom, part-bounds, part-from, part-over}
 use Rattle.shape.proofs.Slices.{slice-part}
 use Rattle.walk.proofs.Turns.{Turn, start, next, done, over}
-use Rattle.schema.specs.declared.Kind.{Kind}
-use Rattle.schema.specs.declared.Asked.{Asked}
-use Rattle.schema.specs.SchemaCode.{askedOf}
+use Rattle.schema.specs.Schema.{Rule}
 use Rattle.element.specs.declared.Gathered.{Gathered}
-use Rattle.element.specs.ElementCode.{nothingGathered, judgedBy, gatherFrom, gatheredAt, valueFrom, valueAt}
+use Rattle.element.specs.ElementCode.{nothingGathered, judged, gatherFrom, gatheredAt, valueFrom, valueAt}
 
 -- a part that is no attribute
 abbrev pub Last : TagPart → Type 0
@@ -32,51 +30,50 @@ abbrev part : List ℕ → ℕ → ℕ → List ℕ
 part f a e = take (e - a) (drop a f)
 
 -- ---- all attributes
-module _ (kind : Kind) (f : List ℕ) (j : ℕ) (g : Gathered) where
+module _ (rs : List Rule) (f : List ℕ) (j : ℕ) (g : Gathered) where
   pub gather-next : (n a e c k : ℕ) → TagPart.Attribute a e c k ≡ walk.partAt f j
-      → gatherFrom kind f (suc n) j g ≡ gatherFrom kind f n (k + 1) (judgedBy g (askedOf kind (slice a e f)) (slice c k f))
+      → gatherFrom rs f (suc n) j g ≡ gatherFrom rs f n (k + 1) (judged rs g (record { name = slice a e f; value = slice c k f }))
   unfolding gatherFrom
   gather-next n a e c k r = rw (← r, gatherFrom)
 
-  pub gather-last : (n : ℕ) (p : TagPart) → p ≡ walk.partAt f j → Last p → gatherFrom kind f (suc n) j g ≡ g
+  pub gather-last : (n : ℕ) (p : TagPart) → p ≡ walk.partAt f j → Last p → gatherFrom rs f (suc n) j g ≡ g
   unfolding gatherFrom
   gather-last n (TagPart.Attribute a e c k) r z = absurd z
   gather-last n (TagPart.Open o) r z = rw (← r, gatherFrom)
   gather-last n (TagPart.Empty e) r z = rw (← r, gatherFrom)
   gather-last n TagPart.Broken r z = rw (← r, gatherFrom)
 
-  gather-past : length f ≤ j → (n : ℕ) → gatherFrom kind f n j g ≡ g
+  gather-past : length f ≤ j → (n : ℕ) → gatherFrom rs f n j g ≡ g
   unfolding gatherFrom
   gather-past h zero = refl
   gather-past h (suc n) = gather-last n TagPart.Broken (sym (part-over f j h)) tt
 
-abbrev pub GatherTurn : Kind → List ℕ → ℕ → Gathered → ℕ → Type 0
-GatherTurn kind f i g j = Turn (λ n m. gatherFrom kind f n m g) (length f) j (gatheredAt kind f i)
+abbrev pub GatherTurn : List Rule → List ℕ → ℕ → Gathered → ℕ → Type 0
+GatherTurn rs f i g j = Turn (λ n m. gatherFrom rs f n m g) (length f) j (gatheredAt rs f i)
 
-pub gather-start : (kind : Kind) (f : List ℕ) (i : ℕ) (p : Part) (g : Gathered) → p ≡ walk.nameAt f i → g ≡ nothingGathered
-    → GatherTurn kind f i g (p .to)
+pub gather-start : (rs : List Rule) (f : List ℕ) (i : ℕ) (p : Part) (g : Gathered) → p ≡ walk.nameAt f i → g ≡ nothingGathered
+    → GatherTurn rs f i g (p .to)
 unfolding gatheredAt
-gather-start kind f i p g e h =
-    start (λ n m. gatherFrom kind f n m g) (length f) (p .to) (gatheredAt kind f i)
-    (ap (λ (q : Part). gatherFrom kind f (suc (length f)) (q .to) g) e ∙ ap (gatherFrom kind f (suc (length f)) (walk.nameAt f i .to)) h)
+gather-start rs f i p g e h =
+    start (λ n m. gatherFrom rs f n m g) (length f) (p .to) (gatheredAt rs f i)
+    (ap (λ (q : Part). gatherFrom rs f (suc (length f)) (q .to) g) e ∙ ap (gatherFrom rs f (suc (length f)) (walk.nameAt f i .to)) h)
 
-module _ (kind : Kind) (f : List ℕ) (i j : ℕ) (g : Gathered) (t : GatherTurn kind f i g j) where
-  pub gather-again : j < length f → (a e c k : ℕ) → TagPart.Attribute a e c k ≡ walk.partAt f j → (q : Asked)
-      → q ≡ askedOf kind (part f a e)
-      → (g′ : Gathered) → g′ ≡ judgedBy g q (part f c k) → GatherTurn kind f i g′ (k + 1)
-  gather-again h a e c k r q x g′ z =
+module _ (rs : List Rule) (f : List ℕ) (i j : ℕ) (g : Gathered) (t : GatherTurn rs f i g j) where
+  pub gather-again : j < length f → (a e c k : ℕ) → TagPart.Attribute a e c k ≡ walk.partAt f j
+      → (g′ : Gathered) → g′ ≡ judged rs g (record { name = part f a e; value = part f c k }) → GatherTurn rs f i g′ (k + 1)
+  gather-again h a e c k r g′ z =
       let b = part-from f j (TagPart.Attribute a e c k) r in
       let u : part f a e ≡ slice a e f = slice-part f a e (b .1) (omega (arith, b .2, b .3, b .4)) in
       let v : part f c k ≡ slice c k f = slice-part f c k (b .3) (omega (arith, b .4)) in
-      let y : judgedBy g (askedOf kind (slice a e f)) (slice c k f) ≡ g′ = sym (z ∙ rw (x, u, v)) in
-      next (λ n m. gatherFrom kind f n m g) (length f) j (gatheredAt kind f i) (λ n m. gatherFrom kind f n m g′) (k + 1) t h
-      (omega (arith, b .0, b .1, b .2, b .3)) (λ n. gather-next kind f j g n a e c k r ∙ ap (gatherFrom kind f n (k + 1)) y)
+      let y : judged rs g (record { name = slice a e f; value = slice c k f }) ≡ g′ = sym (z ∙ rw (u, v)) in
+      next (λ n m. gatherFrom rs f n m g) (length f) j (gatheredAt rs f i) (λ n m. gatherFrom rs f n m g′) (k + 1) t h
+      (omega (arith, b .0, b .1, b .2, b .3)) (λ n. gather-next rs f j g n a e c k r ∙ ap (gatherFrom rs f n (k + 1)) y)
 
-  pub gather-done : j < length f → (p : TagPart) → p ≡ walk.partAt f j → Last p → g ≡ gatheredAt kind f i
-  gather-done h p r z = done (λ n m. gatherFrom kind f n m g) (length f) j (gatheredAt kind f i) g t h (λ n. gather-last kind f j g n p r z)
+  pub gather-done : j < length f → (p : TagPart) → p ≡ walk.partAt f j → Last p → g ≡ gatheredAt rs f i
+  gather-done h p r z = done (λ n m. gatherFrom rs f n m g) (length f) j (gatheredAt rs f i) g t h (λ n. gather-last rs f j g n p r z)
 
-  pub gather-over : length f ≤ j → g ≡ gatheredAt kind f i
-  gather-over h = over (λ n m. gatherFrom kind f n m g) (length f) j (gatheredAt kind f i) g t (gather-past kind f j g h)
+  pub gather-over : length f ≤ j → g ≡ gatheredAt rs f i
+  gather-over h = over (λ n m. gatherFrom rs f n m g) (length f) j (gatheredAt rs f i) g t (gather-past rs f j g h)
 
 -- ---- one attribute
 module _ (n f : List ℕ) (j : ℕ) where
@@ -89,7 +86,7 @@ module _ (n f : List ℕ) (j : ℕ) where
     unfolding valueFrom
     value-next t = rw (← r, valueFrom) (rw t)
 
-  pub value-last : (m : ℕ) (p : TagPart) → p ≡ walk.partAt f j → Last p → valueFrom n f (suc m) j ≡ record { from = 0; to = 0 }
+  value-last : (m : ℕ) (p : TagPart) → p ≡ walk.partAt f j → Last p → valueFrom n f (suc m) j ≡ record { from = 0; to = 0 }
   unfolding valueFrom
   value-last m (TagPart.Attribute a e c k) r z = absurd z
   value-last m (TagPart.Open o) r z = rw (← r, valueFrom)

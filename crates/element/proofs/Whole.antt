@@ -1,6 +1,6 @@
 -- Every number of an element without faults is that of a whole value, or of its whole text.
 use Prim.Native.Nat.{ℕ}
-use mathlib.Core.Path.{_≡_, refl, sym, subst, _∙_}
+use mathlib.Core.Path.{_≡_, refl, sym, ap, subst, _∙_}
 use mathlib.Core.Logic.{_⊎_, inl, inr}
 use mathlib.Core.List.{List, [], _∷_}
 use mathlib.Core.Bool.{Bool, true, false, not, _&&_, true≢false}
@@ -10,7 +10,7 @@ use Rattle.text.specs.Texts.{bytes, same}
 use Rattle.text.proofs.Equal.{same-self, same-equal}
 use Rattle.lists.specs.Lists.{any, Every}
 use Rattle.lists.proofs.Cases.{by-cases}
-use Rattle.lists.proofs.Parts.{and-right, neither}
+use Rattle.lists.proofs.Parts.{and-left, and-right, neither}
 use Rattle.values.specs.declared.Number.{Number}
 use Rattle.values.specs.declared.Number.the-variants.{Value, Nothing}
 use Rattle.values.specs.declared.Sort.{Sort}
@@ -21,11 +21,9 @@ use Rattle.values.specs.NumbersCode.{numberSpelt}
 use Rattle.values.proofs.Exact.{number-exactly}
 use Rattle.shape.specs.Shape.{Attribute}
 use Rattle.schema.specs.Schema.{Rule, _to_, rulesOf}
-use Rattle.schema.specs.SchemaCode.{apart}
-use Rattle.schema.proofs.Laws.{rules-distinct}
+use Rattle.schema.specs.SchemaCode.{knows, apart}
+use Rattle.schema.proofs.Laws.{knows-here, knows-later, rules-distinct}
 use Rattle.file_rules.specs.Element.{Known, worthBy, isBad, isNotCarried, goodOf, givenValue, valueOf, given, textOf, channelOf, misworded, ReadsWhole}
-use Rattle.file_rules.proofs.ElementLaws.{knows, knows-here, knows-later}
-use Rattle.element.proofs.Required.{both, names-apart}
 use Rattle.element.proofs.Laws.{Clean}
 
 -- ---- a value that is good
@@ -73,16 +71,21 @@ abbrev Own : List Rule → Rule → Type 0
 Own rs r = (knows rs (bytes (r .name)) ≡ true)
     × ((s : List ℕ) → worthBy rs (record { name = bytes (r .name); value = s }) ≡ worthOf (r .sort) s)
 
+-- a name with a rule is not one without
+names-apart : (rs : List Rule) (m n : List ℕ) → knows rs m ≡ true → knows rs n ≡ false → same m n ≡ false
+names-apart rs m n k l =
+    by-cases (same m n) (λ t. absurd (true≢false (sym k ∙ (ap (knows rs) (same-equal m n t) ∙ l)))) (λ t. t)
+
 every-own : (P : Rule → Type 0) (rs : List Rule) → apart rs ≡ true → ((r : Rule) → Own rs r → P r) → Every P rs
 unfolding Every apart worthBy
 every-own P [] a f = tt
 every-own P (r ∷ rs) a f =
     let n = bytes (r .name) in
-    let b = both (not (knows rs n)) (apart rs) a in (
+    let b = not-true (knows rs n) (and-left (not (knows rs n)) (apart rs) a) in (
       f r (knows-here r rs n (same-self n), λ s. rw (same-self n)),
-      every-own P rs (b .1)
+      every-own P rs (and-right (not (knows rs n)) (apart rs) a)
           (λ q y.
-          let t = names-apart rs (bytes (q .name)) n (y .0) (not-true (knows rs n) (b .0)) in
+          let t = names-apart rs (bytes (q .name)) n (y .0) b in
           f q (knows-later r rs (bytes (q .name)) t ∙ y .0, λ s. rw t (y .1 s))),
     )
 

@@ -4,14 +4,10 @@ use native.Mathlib.Omega.{arith}
 use mathlib.Core.Path.{_≡_, refl, sym, _∙_}
 use mathlib.Core.List.{List}
 use mathlib.Core.Bool.{Bool, true, false, not, cond, _&&_, _||_}
-use Rattle.text.specs.Texts.{bytes, same}
 use Rattle.lists.proofs.Cases.{by-cases}
 use Rattle.walk.specs.WalkCode.{textAt, stray}
-use Rattle.schema.specs.declared.Kind.{Kind}
-use Rattle.schema.specs.SchemaCode.{kindName}
-use Rattle.schema.proofs.Every.{everywhere}
 use Rattle.element.specs.declared.Gathered.{Gathered}
-use Rattle.element.specs.ElementCode.{lacking, boundsCrossed, gatheredAt, badText, worded, misspelt, verdict, ownFault, tagFault}
+use Rattle.element.specs.ElementCode.{rulesFor, isKind, lacking, boundsCrossed, gatheredAt, badText, worded, misspelt, verdict, ownFault, tagFault}
 
 -- 5, 6 and 7 for a value, by their flags; t is for stray text
 numbered : Bool → Bool → Bool → Bool → ℕ
@@ -34,33 +30,47 @@ stray-none false false true t e = absurd (omega arith)
 stray-none false false false true e = refl
 stray-none false false false false e = refl
 
+-- a kind whose text is read is one of three
+split : (v c e p q s : Bool)
+    → (cond v p (cond c q (cond e false s)) ≡ cond (v || c || e) (cond v p (cond c q false)) s)
+    × (cond (v || c || e) false (cond v p (cond c q false)) ≡ false)
+split true c e p q s = (refl, refl)
+split false true e p q s = (refl, refl)
+split false false true p q s = (refl, refl)
+split false false false p q s = (refl, refl)
+
 module _ (f : List ℕ) (i : ℕ) where
   -- a text is bad if it is misspelt, or where none is read, if there is any
-  pub text-split : (kind : Kind) → badText kind f i ≡ cond (worded kind) (misspelt kind f i) (stray (textAt f i))
-  unfolding badText misspelt worded kindName bytes same
-  text-split = everywhere (λ k. badText k f i) (λ k. cond (worded k) (misspelt k f i) (stray (textAt f i))) refl
+  text-split : (kind : ℕ) → badText kind f i ≡ cond (worded kind) (misspelt kind f i) (stray (textAt f i))
+  unfolding badText misspelt worded
+  text-split kind = split (isKind kind "VERSION") (isKind kind "CHANNEL") (isKind kind "EXPRESSION") _ _ _ .0
 
-  unread : (kind : Kind) → cond (worded kind) false (misspelt kind f i) ≡ false
-  unfolding misspelt worded kindName bytes same
-  unread = everywhere (λ k. cond (worded k) false (misspelt k f i)) (λ k. false) refl
+  unread : (kind : ℕ) → cond (worded kind) false (misspelt kind f i) ≡ false
+  unfolding misspelt worded
+  unread kind = split (isKind kind "VERSION") (isKind kind "CHANNEL") (isKind kind "EXPRESSION") _ _ false .1
 
-  pub worded-text : (kind : Kind) → true ≡ worded kind → misspelt kind f i ≡ badText kind f i
+  pub worded-text : (kind : ℕ) → true ≡ worded kind → misspelt kind f i ≡ badText kind f i
   worded-text kind e = rw (text-split kind, ← e)
 
-  pub wordless-text : (kind : Kind) → false ≡ worded kind → stray (textAt f i) ≡ badText kind f i
+  pub wordless-text : (kind : ℕ) → false ≡ worded kind → stray (textAt f i) ≡ badText kind f i
   wordless-text kind e = rw (text-split kind, ← e)
 
-  module _ (kind : Kind) where
+  module _ (kind : ℕ) where
     abbrev g : Gathered
-    g = gatheredAt kind f i
+    g = gatheredAt (rulesFor kind) f i
+
+    abbrev five : Bool
+    five = g .five || lacking (rulesFor kind) (g .has)
+
+    abbrev six : Bool
+    six = g .six || boundsCrossed (g .has) (g .values)
 
     module _ (e : false ≡ worded kind) where
-      tag-is : tagFault kind f i ≡ numbered (g .five || lacking kind (g .has)) (g .six || boundsCrossed kind (g .values)) (g .seven) false
+      tag-is : tagFault kind f i ≡ numbered five six (g .seven) false
       unfolding tagFault verdict numbered
       tag-is = let h : misspelt kind f i ≡ false = rw (← e) at (unread kind) in rw h
 
-      own-is : ownFault kind f i
-          ≡ numbered (g .five || lacking kind (g .has)) (g .six || boundsCrossed kind (g .values)) (g .seven) (stray (textAt f i))
+      own-is : ownFault kind f i ≡ numbered five six (g .seven) (stray (textAt f i))
       unfolding ownFault verdict numbered
       own-is = rw (← wordless-text kind e)
 

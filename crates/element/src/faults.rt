@@ -1,18 +1,25 @@
 // The own faults of one element of a known kind (5, 6, 7 for a value): attributes that lack, bounds, its text.
 //
-// Promises: `own_fault` and `tag_fault` are the functions of the bytes that specs/ElementCode.antt gives, for every input.
+// Promises: each answer is the function of the bytes that specs/ElementCode.antt gives, for every input.
 ghost use mathlib.Core.Path.{_≡_};
 ghost use mathlib.Core.Bool.{false};
-ghost use lib.ListN.{getD};
 ghost use Rattle.text.specs.Texts.{bytes, same};
 ghost use Rattle.shape.specs.Text.{trimmed};
 ghost use Rattle.file_rules.specs.Element.{isBad};
-ghost use Rattle.element.specs.ElementCode.{unpaired, lacking, idsCrossed, boundsCrossed, shortText, badText, misspelt, verdict, ownFault, tagFault};
-ghost use Rattle.lists.specs.FlagsCode.{lacksFirst};
+ghost use Rattle.element.specs.ElementCode.{rulesFor, lacksRequired, unpaired, lacking, boundsCrossed, shortText, badText, misspelt, verdict};
 use crate::Gathered;
-use crate::SLOTS;
 use crate::fields;
-use schema::Kind;
+use lists::bits;
+use schema::attributes;
+use schema::attributes::ATTRIBUTES;
+use schema::attributes::CAN_EXT;
+use schema::attributes::DLC;
+use schema::attributes::DLC_MIN;
+use schema::attributes::MSGID;
+use schema::attributes::MSGID_MIN;
+use schema::kinds;
+use values::BAD_VALUE;
+use values::NOT_CARRIED;
 use values::Worth;
 use walk::pieces;
 use walk::pieces::Single;
@@ -21,44 +28,41 @@ use walk::trims;
 
 const LAST_STANDARD: u32 = 2047;
 
-// Has a filter one of dlc and dlc_min without the other?
-fn is_unpaired(kind: Kind, has: [bool; 12]) -> bool
-    ensures { λ r. ⌜ r ≡ unpaired kind has ⌝ }
+// Does an attribute lack that an element of the kind must have?
+fn lacks_required(kind: usize, has: u64) -> bool
+    ensures { λ r. ⌜ r ≡ lacksRequired (rulesFor kind) has ⌝ }
 {
-    match kind {
-        Kind::MessagePass | Kind::MessageStop => (has[6] & !has[7]) | (has[7] & !has[6]),
-        _ => false,
-    }
+    let musts = attributes::musts_of(kind);
+    !bits::has_all(has, musts)
+}
+
+// Is one of dlc and dlc_min there without the other?
+fn is_unpaired(has: u64) -> bool
+    ensures { λ r. ⌜ r ≡ unpaired has ⌝ }
+{
+    let dlc = bits::has_bit(has, DLC);
+    let least = bits::has_bit(has, DLC_MIN);
+    (dlc & !least) | (least & !dlc)
 }
 
 // Does a required attribute lack, or one of a pair?
-fn lacks(kind: Kind, has: [bool; 12]) -> bool
-    ensures { λ r. ⌜ r ≡ lacking kind has ⌝ }
+fn lacks(kind: usize, has: u64) -> bool
+    ensures { λ r. ⌜ r ≡ lacking (rulesFor kind) has ⌝ }
 {
-    let n = schema::required_of(kind);
-    if lists::lacks_first(&has, n) {
+    if lacks_required(kind, has) {
         return true;
     }
-    is_unpaired(kind, has)
+    is_unpaired(has)
 }
 
-// Is an identifier too large, or the lower one above the upper?
-fn ids_crossed(upper: u32, lower: u32, ext: u32) -> bool
-    ensures { λ r. ⌜ r ≡ idsCrossed upper lower ext ⌝ }
+// Is an identifier too large, or a lower bound above its upper?
+fn bounds_crossed(has: u64, v: [u32; ATTRIBUTES]) -> bool
+    ensures { λ r. ⌜ r ≡ boundsCrossed has v ⌝ }
 {
-    ((ext == 0) & ((LAST_STANDARD < upper) | (LAST_STANDARD < lower))) | (upper < lower)
-}
-
-// Do the values of an element of the kind break its bounds?
-fn bounds_crossed(kind: Kind, v: [u32; 12]) -> bool
-    ensures { λ r. ⌜ r ≡ boundsCrossed kind v ⌝ }
-{
-    match kind {
-        Kind::MsgId => ids_crossed(v[3], v[4], v[5]),
-        Kind::MsgDlc => v[3] < v[4],
-        Kind::MessagePass | Kind::MessageStop => { ids_crossed(v[0], v[1], v[2]) | (v[6] < v[7]) }
-        _ => false,
-    }
+    let told = bits::has_bit(has, CAN_EXT);
+    (told & (v[CAN_EXT] == 0) & ((LAST_STANDARD < v[MSGID]) | (LAST_STANDARD < v[MSGID_MIN])))
+        | (v[MSGID] < v[MSGID_MIN])
+        | (v[DLC] < v[DLC_MIN])
 }
 
 fn is_bad(w: Worth) -> bool
@@ -66,8 +70,7 @@ fn is_bad(w: Worth) -> bool
 {
     match w {
         Worth::Good(_) => false,
-        Worth::Bad => true,
-        Worth::NotCarried => false,
+        Worth::Refused(n) => n == BAD_VALUE,
     }
 }
 
@@ -100,15 +103,15 @@ fn has_version(file: &[u8], i: usize) -> bool
 }
 
 // Is the text of the element at i read for its value, and has none?
-fn is_misspelt(file: &[u8], i: usize, kind: Kind) -> bool
+pub fn is_misspelt(file: &[u8], i: usize, kind: usize) -> bool
     ensures { λ r. ⌜ r ≡ misspelt kind (now (file .entry)) i ⌝ }
 {
     match kind {
-        Kind::Version => {
+        kinds::VERSION => {
             let good = has_version(file, i);
             !good
         }
-        Kind::Channel => {
+        kinds::CHANNEL => {
             let w = fields::channel_number(file, i);
             is_bad(w)
         }
@@ -117,18 +120,20 @@ fn is_misspelt(file: &[u8], i: usize, kind: Kind) -> bool
 }
 
 // Has the element at i a text that its kind may not have?
-fn bad_text(file: &[u8], i: usize, kind: Kind) -> bool
+pub fn bad_text(file: &[u8], i: usize, kind: usize) -> bool
     ensures { λ r. ⌜ r ≡ badText kind (now (file .entry)) i ⌝ }
 {
     match kind {
-        Kind::Version | Kind::Expression | Kind::Channel => is_misspelt(file, i, kind),
+        kinds::VERSION => is_misspelt(file, i, kind),
+        kinds::EXPRESSION => is_misspelt(file, i, kind),
+        kinds::CHANNEL => is_misspelt(file, i, kind),
         _ => texts::has_text(file, i),
     }
 }
 
-// The first of 5, 6, 7 for a value, by the attributes and whether the text is bad.
-fn verdict_of(kind: Kind, g: Gathered, bad: bool) -> u32
-    ensures { λ r. ⌜ r ≡ verdict kind bad g ⌝ }
+// The first of 5, 6, 7 for a value, by the attributes and whether the text is bad; 0 if there is none.
+pub fn verdict_of(kind: usize, g: Gathered, bad: bool) -> u32
+    ensures { λ r. ⌜ r ≡ verdict (rulesFor kind) bad g ⌝ }
 {
     let has = g.has;
     let values = g.values;
@@ -139,34 +144,16 @@ fn verdict_of(kind: Kind, g: Gathered, bad: bool) -> u32
         return 5;
     }
     if g.six {
-        return 6;
+        return BAD_VALUE;
     }
-    if bounds_crossed(kind, values) {
-        return 6;
+    if bounds_crossed(has, values) {
+        return BAD_VALUE;
     }
     if bad {
-        return 6;
+        return BAD_VALUE;
     }
     if g.seven {
-        return 7;
+        return NOT_CARRIED;
     }
     0
-}
-
-// The first of 5, 6, 7 for a value that the element at i gives; 0 if it gives none.
-pub fn own_fault(file: &[u8], i: usize, kind: Kind) -> u32
-    ensures { λ r. ⌜ r ≡ ownFault kind (now (file .entry)) i ⌝ }
-{
-    let g = crate::gather(file, i, kind);
-    let bad = bad_text(file, i, kind);
-    verdict_of(kind, g, bad)
-}
-
-// The same, stray text aside.
-pub fn tag_fault(file: &[u8], i: usize, kind: Kind) -> u32
-    ensures { λ r. ⌜ r ≡ tagFault kind (now (file .entry)) i ⌝ }
-{
-    let tag = crate::gather(file, i, kind);
-    let misspelt = is_misspelt(file, i, kind);
-    verdict_of(kind, tag, misspelt)
 }

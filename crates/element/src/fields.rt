@@ -4,8 +4,10 @@
 ghost use mathlib.Core.Path.{_≡_};
 ghost use Rattle.values.specs.Values.{worthOf};
 ghost use Rattle.shape.specs.Text.{trimmed};
+ghost use Rattle.file_rules.specs.Element.{goodOf};
 ghost use Rattle.schema.specs.Schema.{_to_};
-ghost use Rattle.element.specs.ElementCode.{numbered, valueAt};
+ghost use Rattle.element.specs.ElementCode.{numbered, textNumber, valueAt};
+use schema::kinds;
 use values::Sort;
 use values::Worth;
 use values::sorts;
@@ -34,6 +36,15 @@ fn number_in(text: &[u8]) -> Worth
     sorts::worth_of(sort, &text[a..e])
 }
 
+fn good_of(w: Worth) -> u32
+    ensures { λ r. ⌜ r ≡ goodOf w ⌝ }
+{
+    match w {
+        Worth::Good(v) => v,
+        Worth::Refused(_) => 0,
+    }
+}
+
 // The channel that the text of the element at i names, its pieces joined in a buffer.
 fn joined_number(file: &[u8], i: usize) -> Worth
     ensures { λ r. ⌜ r ≡ numbered (now (file .entry)) i ⌝ }
@@ -51,6 +62,17 @@ pub fn channel_number(file: &[u8], i: usize) -> Worth
         Single::Part(a, b) => number_in(&file[a..b]),
         Single::Pieces => joined_number(file, i),
     }
+}
+
+// The number that the text of the element at i gives, which is of the kind: 0 but for a CHANNEL.
+pub fn text_number(file: &[u8], i: usize, kind: usize) -> u32
+    ensures { λ r. ⌜ r ≡ textNumber kind (now (file .entry)) i ⌝ }
+{
+    if kinds::is_same(kind, kinds::CHANNEL) {
+        let w = channel_number(file, i);
+        return good_of(w);
+    }
+    0
 }
 
 // The value of the attribute of that name of the element at i; nothing at 0 if it has none.

@@ -1,39 +1,45 @@
-// One known element: its attributes, its faults, what it says.
+// One known element: its attributes, its faults, the number in its text.
 //
-// The root gathers the attributes. faults: its own faults (refusals 4 to 7). fields: the channel in its text, one value by name.
-// triggers, filters: what a trigger or a filter says.
-// Promises: each answer is the function of the bytes that specs/ElementCode.antt or specs/ReadingCode.antt gives, for every input; proofs/Laws.antt says
-// that on a well-shaped file these are the faults and values of crates/file_rules/specs/Element.antt.
+// The root gathers the attributes, and says where the start tag ends. faults: its own faults (refusals 5 to 7). fields: the channel in its text, one
+// value by name.
+// Promises: each answer is the function of the bytes that specs/ElementCode.antt gives, for every input; proofs/Laws.antt says that on a
+// well-shaped file these are the faults and values of crates/file_rules/specs/Element.antt.
 // May not touch: other elements. Which elements are known, and what their parent holds already, it is told.
 ghost use mathlib.Core.Path.{_≡_};
 ghost use Prim.Native.Nat.{_<_};
-ghost use Rattle.element.specs.ElementCode.{nothingGathered, putWorth, unfitted, judgedBy, gatheredAt};
+ghost use Rattle.walk.specs.WalkCode.{contentAt};
+ghost use Rattle.schema.specs.SchemaCode.{attributeCount};
+ghost use Rattle.element.specs.ElementCode.{rulesFor, nothingGathered, putWorth, unfitted, judged, gatheredAt};
 
 pub mod faults;
 pub mod fields;
-pub mod filters;
-pub mod triggers;
 
-use schema::Asked;
-use schema::Kind;
+use lists::bits;
 use schema::attributes;
+use schema::attributes::ATTRIBUTES;
+use values::BAD_VALUE;
+use values::NOT_CARRIED;
 use values::Worth;
 use values::sorts;
+use walk::Body;
 use walk::TagPart;
 use walk::tags;
 
-// What the attributes of an element say: one is unknown or repeated (5), one has a bad value (6), one is not carried (7); by number of rule,
-// which are there and what they are worth.
+// What the attributes of an element say: one is unknown or repeated (5), one has a bad value (6), one is not carried (7); by their numbers,
+// which are there, as a set, and what they are worth.
 pub struct Gathered {
     pub five: bool,
     pub six: bool,
     pub seven: bool,
-    pub has: [bool; 12],
-    pub values: [u32; 12],
+    pub has: u64,
+    pub values: [u32; ATTRIBUTES],
 }
 
-// No element has more rules than this; a slot behind the last is that of no rule.
-pub const SLOTS: usize = 12;
+// A start tag: its attributes, and what stands behind it.
+pub struct Tag {
+    pub gathered: Gathered,
+    pub body: Body,
+}
 
 // Before the first attribute.
 fn nothing() -> Gathered
@@ -43,29 +49,26 @@ fn nothing() -> Gathered
         five: false,
         six: false,
         seven: false,
-        has: [false; 12],
-        values: [0; 12],
+        has: 0,
+        values: [0; ATTRIBUTES],
     }
 }
 
-// An attribute at its slot.
-fn put(g: Gathered, slot: usize, w: Worth) -> Gathered
-    requires { ⌜ slot < 12 ⌝ }
-    ensures { λ r. ⌜ r ≡ putWorth g slot w ⌝ }
+// An attribute by its number.
+fn put(g: Gathered, a: usize, w: Worth) -> Gathered
+    requires { ⌜ a < attributeCount ⌝ }
+    ensures { λ r. ⌜ r ≡ putWorth g a w ⌝ }
 {
     let mut h = g;
-    h.has[slot] = true;
+    h.has = bits::with_bit(g.has, a);
     match w {
         Worth::Good(v) => {
-            h.values[slot] = v;
+            h.values[a] = v;
         }
-        Worth::Bad => {
-            h.values[slot] = 0;
-            h.six = true;
-        }
-        Worth::NotCarried => {
-            h.values[slot] = 0;
-            h.seven = true;
+        Worth::Refused(n) => {
+            h.values[a] = 0;
+            h.six = (n == BAD_VALUE) | h.six;
+            h.seven = (n == NOT_CARRIED) | h.seven;
         }
     }
     h
@@ -80,46 +83,49 @@ fn unfit(g: Gathered) -> Gathered
     h
 }
 
-// One attribute more: what is asked of it, and its value.
-fn judge(g: Gathered, asked: Asked, text: &[u8]) -> Gathered
-    ensures { λ r. ⌜ r ≡ judgedBy g asked (now (text .entry)) ⌝ }
+// One attribute more, with its value.
+fn judge(g: Gathered, kind: usize, name: &[u8], text: &[u8]) -> Gathered
+    ensures { λ r. ⌜ r ≡ judged (rulesFor kind) g (record { name = now (name .entry); value = now (text .entry) }) ⌝ }
 {
-    let slot = asked.slot;
-    if SLOTS <= slot {
+    let a = attributes::attribute_in(kind, name);
+    if ATTRIBUTES <= a {
         return unfit(g);
     }
-    if g.has[slot] {
+    if bits::has_bit(g.has, a) {
         return unfit(g);
     }
-    let sort = asked.sort;
+    let sort = attributes::sort_of(a);
     let w = sorts::worth_of(sort, text);
-    put(g, slot, w)
+    put(g, a, w)
 }
 
-// The attributes of the element at i, which is of the kind.
-pub(crate) fn gather(file: &[u8], i: usize, kind: Kind) -> Gathered
-    ensures { λ r. ⌜ r ≡ gatheredAt kind (now (file .entry)) i ⌝ }
+// The start tag of the element at i, which is of the kind.
+pub fn gather(file: &[u8], i: usize, kind: usize) -> Tag
+    ensures { λ r. ⌜ (r .gathered ≡ gatheredAt (rulesFor kind) (now (file .entry)) i) × (r .body ≡ contentAt (now (file .entry)) i) ⌝ }
 {
     let n = tags::name_of(file, i);
-    let mut g = nothing();
+    let mut gathered = nothing();
     let mut j = n.to;
     while j < file.len() {
         match tags::part_at(file, j) {
             TagPart::Attribute(a, e, c, k) => {
-                let asked = attributes::asked_of(kind, &file[a..e]);
-                g = judge(g, asked, &file[c..k]);
+                gathered = judge(gathered, kind, &file[a..e], &file[c..k]);
                 j = k + 1;
             }
-            TagPart::Open(_) => {
-                return g;
+            TagPart::Open(o) => {
+                let body = Body::Open(o);
+                return Tag { gathered, body };
             }
-            TagPart::Empty(_) => {
-                return g;
+            TagPart::Empty(e) => {
+                let body = Body::Empty(e);
+                return Tag { gathered, body };
             }
             TagPart::Broken => {
-                return g;
+                let body = Body::Broken;
+                return Tag { gathered, body };
             }
         }
     }
-    g
+    let body = Body::Broken;
+    Tag { gathered, body }
 }

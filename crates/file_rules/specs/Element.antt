@@ -10,7 +10,7 @@ use lib.ListN.{length}
 use Rattle.text.specs.Texts.{bytes, same}
 use Rattle.values.specs.declared.Sort.the-variants.{Numeric, Timeout}
 use Rattle.values.specs.declared.Worth.{Worth}
-use Rattle.values.specs.declared.Worth.the-variants.{Good, Bad, NotCarried}
+use Rattle.values.specs.declared.Worth.the-variants.{Good, Refused}
 use Rattle.values.specs.Values.{worthOf}
 use Rattle.values.specs.Numbers.{IsNumber}
 use Rattle.shape.specs.Shape.{Attribute, Items}
@@ -35,14 +35,14 @@ worthBy [] a = Good 0
 worthBy (r ∷ rs) a = cond (same (a .name) (bytes (r .name))) (worthOf (r .sort) (a .value)) (worthBy rs a)
 
 abbrev pub isBad : Worth → Bool
-isBad w = elim w [ Good v ↦ false | Bad ↦ true | NotCarried ↦ false ]
+isBad w = elim w [ Good v ↦ false | Refused n ↦ eqb n 6 ]
 
 abbrev pub isNotCarried : Worth → Bool
-isNotCarried w = elim w [ Good v ↦ false | Bad ↦ false | NotCarried ↦ true ]
+isNotCarried w = elim w [ Good v ↦ false | Refused n ↦ eqb n 7 ]
 
 -- the number that it gives. 0 where it gives none is never seen: such a value has given 6 or 7 before the number is asked for
 abbrev pub goodOf : Worth → ℕ
-goodOf w = elim w [ Good v ↦ v | Bad ↦ 0 | NotCarried ↦ 0 ]
+goodOf w = elim w [ Good v ↦ v | Refused n ↦ 0 ]
 
 -- the value of the attribute n, and the number that it gives; 0 where it gives none
 unfoldable pub givenValue : List ℕ → List Attribute → List ℕ

@@ -1,6 +1,6 @@
 -- Flags that hold together, the fuel of a loop, and parts of a list that are lent.
 use Prim.Native.Nat.{ℕ, suc, _+_, _-_, _≤_, _<_}
-use mathlib.Core.Path.{_≡_, refl}
+use mathlib.Core.Path.{_≡_, refl, sym}
 use mathlib.Core.List.{List}
 use mathlib.Core.Bool.{Bool, true, false, _&&_, _||_, false≢true, true≢false}
 use native.Mathlib.Omega.{arith}
@@ -19,6 +19,16 @@ and-right false b p = absurd (false≢true p)
 pub neither : (a b : Bool) → (a || b) ≡ false → (a ≡ false) × (b ≡ false)
 neither true b e = absurd (true≢false e)
 neither false b e = (refl, e)
+
+pub or-second : (a b : Bool) → b ≡ true → (a || b) ≡ true
+or-second true b e = refl
+or-second false b e = e
+
+-- two flags of which each gives the other
+pub agree : (a b : Bool) → (a ≡ true → b ≡ true) → (b ≡ true → a ≡ true) → a ≡ b
+agree true b f g = sym (f refl)
+agree false true f g = g refl
+agree false false f g = refl
 
 -- the fuel of a loop that counts i up to k
 pub fuel : (k i : ℕ) → i < k → k - i ≡ suc (k - (i + 1))

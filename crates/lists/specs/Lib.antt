@@ -2,3 +2,4 @@
 pub mod Lists
 pub mod FlagsCode
 pub mod FillsCode
+pub mod BitsCode

@@ -1,157 +1,251 @@
--- Laws of the tables that callers may cite: of the kinds under a parent, of their order, and of the rules of a kind.
-use Prim.Native.Nat.{ℕ, _+_, _≤_, _<_}
+-- Laws of the tables that callers may cite: of the kinds under a parent; every rule's attribute has a number, and what its value is asked
+-- for does not depend on the element.
+use Prim.Native.Nat.{ℕ, _≤_, _<_}
 use Prim.Native.String.{String}
 use native.Mathlib.Omega.{arith}
 use mathlib.Core.Path.{_≡_, refl, sym, ap, _∙_}
 use mathlib.Core.List.{List, [], _∷_, map}
-use mathlib.Core.Bool.{Bool, true, false, cond, true≢false}
-use borrow.Author.Tests.{ltb-true, leb-true}
-use lib.Dec.{leb, ltb}
+use mathlib.Core.Bool.{Bool, true, false, cond, _&&_, _||_, true≢false}
+use lib.Dec.{leb, eqb}
 use lib.ListN.{length, getD, drop}
+use borrow.Author.Tests.{le-leb, lt-leb, eqb-true, eqb-false}
 use Rattle.text.specs.Texts.{bytes, same}
-use Rattle.lists.proofs.Cases.{by-cases}
-use Rattle.lists.proofs.Parts.{and-left, and-right}
-use Rattle.text.proofs.Equal.{same-equal}
-use Rattle.schema.specs.declared.Kind.{Kind}
-use Rattle.schema.specs.declared.Kind.the-variants.{NotCarried, Unknown}
-use Rattle.schema.specs.declared.Times.{Times}
-use Rattle.schema.specs.declared.Times.the-variants.{Once, OneTo, UpTo}
-use Rattle.schema.specs.Schema.{Rule, ElementRules, oneOf, parents, parentIn, under, elements, rulesIn, rulesOf}
-use Rattle.schema.specs.SchemaCode.{kindName, kinds, kindAmong, barredAmong, kindUnder, isCarried, positionOf, orderOf, askedFrom, askedOf, requiredIn, firstRequired, apart}
-use Rattle.schema.proofs.Every.{everywhere}
-use Rattle.lists.specs.Lists.{any, all}
+use Rattle.lists.proofs.Cases.{by-cases, le-or-lt}
+use Rattle.lists.proofs.Parts.{neither}
+use Rattle.text.proofs.Equal.{same-self, same-equal, same-back}
+use Rattle.values.specs.declared.Sort.{Sort}
+use Rattle.schema.specs.declared.Times.the-variants.{UpTo}
+use Rattle.lists.specs.Lists.{any}
+use Rattle.schema.specs.Schema.{Parent, _over_times_bars_, Rule, ElementRules, oneOf, parents, parentIn, under, elements, rulesIn, rulesOf}
+use Rattle.schema.specs.SchemaCode.{names, attributes, kindCount, attributeCount, nameIn, kindName, attributeName, positionOf, kindOf, attributeOf, isCarried, isBarred, heldIn, kindUnder, knows, apart, sortIn, allRules, sortOf}
+use Rattle.lists.specs.BitsCode.{from}
+use Rattle.lists.proofs.BitLaws.{everywhere}
+use Rattle.schema.proofs.Tables.{one-back, past-last}
 
--- a name is that of one kind
-own-names : (k : Kind) → cond (isCarried k) (kindAmong kinds (kindName k)) k ≡ k
-unfolding isCarried kindAmong kindName bytes same
-own-names = everywhere (λ k. cond (isCarried k) (kindAmong kinds (kindName k)) k) (λ k. k) refl
+-- two functions agree at n if they do at the name of each rule, and n is one of these
+module _ {A : Type 0} (f g : List ℕ → A) (n : List ℕ) where
+  pub ruled : (rs : List Rule) → map (λ r. f (bytes (r .name))) rs ≡ map (λ r. g (bytes (r .name))) rs → knows rs n ≡ true → f n ≡ g n
+  unfolding knows any
+  ruled [] e k = absurd (true≢false (sym k))
+  ruled (r ∷ rs) e k =
+      by-cases (same n (bytes (r .name)))
+      (λ t. rw (same-equal n (bytes (r .name)) t) (ap (λ (l : List A). getD l 0 (f (bytes (r .name)))) e))
+      (λ t. ruled rs (ap (drop 1) e) (rw t at k))
 
-pub kind-back : (k : Kind) → isCarried k ≡ true → kindAmong kinds (kindName k) ≡ k
-kind-back k c = rw c at (own-names k)
+-- the first rule, or one behind it
+module _ (r : Rule) (rs : List Rule) (n : List ℕ) where
+  pub knows-here : same n (bytes (r .name)) ≡ true → knows (r ∷ rs) n ≡ true
+  unfolding knows any
+  knows-here t = rw t
 
-pub kinds-apart : (k m : Kind) → isCarried k ≡ true → isCarried m ≡ true → kindName k ≡ kindName m → k ≡ m
-kinds-apart k m c d e = sym (kind-back k c) ∙ (ap (kindAmong kinds) e ∙ kind-back m d)
+  pub knows-later : same n (bytes (r .name)) ≡ false → knows (r ∷ rs) n ≡ knows rs n
+  unfolding knows any
+  knows-later t = rw t
 
+-- two functions agree at the rules of every element, if they do at each row of the table
+module _ {A : Type 0} (f g : List Rule → A) (none : f [] ≡ g []) (n : List ℕ) where
+  each-rules : (es : List ElementRules) → map (λ e. f (e .rules)) es ≡ map (λ e. g (e .rules)) es → f (rulesIn es n) ≡ g (rulesIn es n)
+  unfolding rulesIn
+  each-rules [] q = none
+  each-rules (e ∷ es) q =
+      by-cases (same n (bytes (e .name))) (λ t. rw t (ap (λ (l : List A). getD l 0 (f (e .rules))) q)) (λ t. rw t (each-rules es (ap (drop 1) q)))
+
+  pub in-every-element : map (λ e. f (e .rules)) elements ≡ map (λ e. g (e .rules)) elements → f (rulesOf n) ≡ g (rulesOf n)
+  in-every-element = each-rules elements
+
+-- ---- elements
 -- two functions agree at n if they do at each of the names, and n is one of them
 module _ {A : Type 0} (f g : List ℕ → A) (n : List ℕ) where
-  named : (xs : List String) → map (λ x. f (bytes x)) xs ≡ map (λ x. g (bytes x)) xs → oneOf xs n ≡ true → f n ≡ g n
+  pub named : (xs : List String) → map (λ x. f (bytes x)) xs ≡ map (λ x. g (bytes x)) xs → oneOf xs n ≡ true → f n ≡ g n
   unfolding any
   named [] e o = absurd (true≢false (sym o))
   named (x ∷ xs) e o =
-      by-cases (same n (bytes x)) (λ t. rw (same-equal n (bytes x) t) (ap (λ (l : List A). getD l 0 (f (bytes x))) e))
-      (λ t. named xs (ap (drop 1) e) (rw t at o))
+      by-cases (same n (bytes x)) (λ t. rw (same-equal n (bytes x) t) (ap (λ (l : List A). getD l 0 (f (bytes x))) e)) (λ t. named xs (ap (drop 1) e) (rw t at o))
 
--- ---- the kinds under a parent
-names-back : (q : Kind)
-    → map (λ x. kindName (kindAmong kinds (bytes x))) (under (kindName q) .carried) ≡ map bytes (under (kindName q) .carried)
-unfolding parentIn parents kindAmong kindName bytes same
-names-back =
-    everywhere (λ q. map (λ x. kindName (kindAmong kinds (bytes x))) (under (kindName q) .carried))
-    (λ q. map bytes (under (kindName q) .carried)) refl
+module _ {A : Type 0} (f g : Parent → A) (none : f ("" over [] times UpTo 0 bars []) ≡ g ("" over [] times UpTo 0 bars [])) (n : List ℕ) where
+  each-parent : (ps : List Parent) → map f ps ≡ map g ps → f (parentIn ps n) ≡ g (parentIn ps n)
+  unfolding parentIn
+  each-parent [] q = none
+  each-parent (p ∷ ps) q =
+      by-cases (same n (bytes (p .name))) (λ t. rw t (ap (λ (l : List A). getD l 0 (f p)) q)) (λ t. rw t (each-parent ps (ap (drop 1) q)))
 
-names-carried : (q : Kind)
-    → map (λ x. isCarried (kindAmong kinds (bytes x))) (under (kindName q) .carried) ≡ map (λ x. true) (under (kindName q) .carried)
-unfolding parentIn parents kindAmong isCarried kindName bytes same
-names-carried =
-    everywhere (λ q. map (λ x. isCarried (kindAmong kinds (bytes x))) (under (kindName q) .carried))
-    (λ q. map (λ x. true) (under (kindName q) .carried)) refl
+  pub in-every-parent : map f parents ≡ map g parents → f (under n) ≡ g (under n)
+  in-every-parent = each-parent parents
 
-barred-apart : (q : Kind)
-    → map (λ x. oneOf (under (kindName q) .carried) (bytes x)) (under (kindName q) .barred) ≡ map (λ x. false) (under (kindName q) .barred)
-unfolding parentIn parents any kindName bytes same
-barred-apart =
-    everywhere (λ q. map (λ x. oneOf (under (kindName q) .carried) (bytes x)) (under (kindName q) .barred))
-    (λ q. map (λ x. false) (under (kindName q) .barred)) refl
+-- what holds of each of the names under every parent, holds of a name under q
+module _ (q : List ℕ) where
+  in-carried : map (λ x. oneOf (under q .barred) (bytes x)) (under q .carried) ≡ map (λ x. false) (under q .carried)
+  unfolding parents any same bytes
+  in-carried =
+      each-parent (λ p. map (λ x. oneOf (p .barred) (bytes x)) (p .carried)) (λ p. map (λ x. false) (p .carried)) refl q parents refl
 
-module _ (q : Kind) (n : List ℕ) where
-  pub carried-name : oneOf (under (kindName q) .carried) n ≡ true → kindName (kindUnder q n) ≡ n
+  all-carried : map (λ x. isCarried (bytes x)) (under q .carried) ≡ map (λ x. true) (under q .carried)
+  unfolding parents isCarried any same bytes
+  all-carried =
+      each-parent (λ p. map (λ x. isCarried (bytes x)) (p .carried)) (λ p. map (λ x. true) (p .carried)) refl q parents refl
+
+  all-barred : map (λ x. isBarred (bytes x)) (under q .barred) ≡ map (λ x. true) (under q .barred)
+  unfolding parents isBarred any same bytes
+  all-barred = each-parent (λ p. map (λ x. isBarred (bytes x)) (p .barred)) (λ p. map (λ x. true) (p .barred)) refl q parents refl
+
+  none-barred : map (λ x. isBarred (bytes x)) (under q .carried) ≡ map (λ x. false) (under q .carried)
+  unfolding parents isBarred any same bytes
+  none-barred = each-parent (λ p. map (λ x. isBarred (bytes x)) (p .carried)) (λ p. map (λ x. false) (p .carried)) refl q parents refl
+
+  none-carried : map (λ x. isCarried (bytes x)) (under q .barred) ≡ map (λ x. false) (under q .barred)
+  unfolding parents isCarried any same bytes
+  none-carried = each-parent (λ p. map (λ x. isCarried (bytes x)) (p .barred)) (λ p. map (λ x. false) (p .barred)) refl q parents refl
+
+  named-carried : map (λ x. oneOf names (bytes x)) (under q .carried) ≡ map (λ x. true) (under q .carried)
+  unfolding parents names any same bytes
+  named-carried =
+      each-parent (λ p. map (λ x. oneOf names (bytes x)) (p .carried)) (λ p. map (λ x. true) (p .carried)) refl q parents refl
+
+  named-barred : map (λ x. oneOf names (bytes x)) (under q .barred) ≡ map (λ x. true) (under q .barred)
+  unfolding parents names any same bytes
+  named-barred = each-parent (λ p. map (λ x. oneOf names (bytes x)) (p .barred)) (λ p. map (λ x. true) (p .barred)) refl q parents refl
+
+  module _ (n : List ℕ) where
+    pub carried-not-barred : oneOf (under q .carried) n ≡ true → oneOf (under q .barred) n ≡ false
+    carried-not-barred = named (oneOf (under q .barred)) (λ m. false) n (under q .carried) in-carried
+
+    pub barred-not-carried : oneOf (under q .barred) n ≡ true → oneOf (under q .carried) n ≡ false
+    barred-not-carried b =
+        by-cases (oneOf (under q .carried) n) (λ c. absurd (true≢false (sym b ∙ carried-not-barred c))) (λ c. c)
+
+    pub carried-held : oneOf (under q .carried) n ≡ true → heldIn q n ≡ true
+    unfolding heldIn
+    carried-held c = rw c
+
+    pub barred-held : oneOf (under q .barred) n ≡ true → heldIn q n ≡ true
+    unfolding heldIn
+    barred-held b = rw (barred-not-carried b, b)
+
+    pub held-listed : heldIn q n ≡ true → oneOf names n ≡ true
+    unfolding heldIn
+    held-listed h =
+        by-cases (oneOf (under q .carried) n) (λ t. named (oneOf names) (λ m. true) n (under q .carried) named-carried t)
+        (λ t. named (oneOf names) (λ m. true) n (under q .barred) named-barred (rw t at h))
+
+    held-carried : heldIn q n ≡ true → isCarried n ≡ oneOf (under q .carried) n
+    unfolding heldIn
+    held-carried h =
+        by-cases (oneOf (under q .carried) n) (λ t. named isCarried (λ m. true) n (under q .carried) all-carried t ∙ sym t)
+        (λ t. named isCarried (λ m. false) n (under q .barred) none-carried (rw t at h) ∙ sym t)
+
+    held-barred : heldIn q n ≡ true → isBarred n ≡ oneOf (under q .barred) n
+    unfolding heldIn
+    held-barred h =
+        by-cases (oneOf (under q .carried) n)
+        (λ t. named isBarred (λ m. false) n (under q .carried) none-barred t ∙ sym (carried-not-barred t))
+        (λ t. named isBarred (λ m. true) n (under q .barred) all-barred (rw t at h) ∙ sym (rw t at h))
+
+-- the kind of an element n in an element of the kind q: n is its name, and it is carried or barred as n is in q
+module _ (q : ℕ) (n : List ℕ) where
+  pub kind-is : heldIn (kindName q) n ≡ true → kindUnder q n ≡ kindOf n
   unfolding kindUnder
-  carried-name o = rw o (named (λ m. kindName (kindAmong kinds m)) (λ m. m) n (under (kindName q) .carried) (names-back q) o)
+  kind-is h = rw h
 
-  pub carried-carried : oneOf (under (kindName q) .carried) n ≡ true → isCarried (kindUnder q n) ≡ true
+  pub kind-named : heldIn (kindName q) n ≡ true → kindName (kindUnder q n) ≡ n
   unfolding kindUnder
-  carried-carried o = rw o (named (λ m. isCarried (kindAmong kinds m)) (λ m. true) n (under (kindName q) .carried) (names-carried q) o)
+  kind-named h = rw h (one-back n names (held-listed (kindName q) n h) .1)
 
-  pub barred-kind : oneOf (under (kindName q) .carried) n ≡ false → oneOf (under (kindName q) .barred) n ≡ true → kindUnder q n ≡ NotCarried
-  unfolding kindUnder barredAmong
-  barred-kind o b = rw (o, b)
+  pub kind-low : heldIn (kindName q) n ≡ true → kindUnder q n < kindCount
+  unfolding kindUnder names
+  kind-low h = rw h (one-back n names (held-listed (kindName q) n h) .0)
 
-  pub unknown-kind : oneOf (under (kindName q) .carried) n ≡ false → oneOf (under (kindName q) .barred) n ≡ false → kindUnder q n ≡ Unknown
-  unfolding kindUnder barredAmong
-  unknown-kind o b = rw (o, b)
+  module _ (h : heldIn (kindName q) n ≡ false) where
+    pub no-kind : kindUnder q n ≡ kindCount
+    unfolding kindUnder
+    no-kind = rw h
 
-  pub barred-not-carried : oneOf (under (kindName q) .barred) n ≡ true → oneOf (under (kindName q) .carried) n ≡ false
-  barred-not-carried = named (λ m. oneOf (under (kindName q) .carried) m) (λ m. false) n (under (kindName q) .barred) (barred-apart q)
+    held-none : (oneOf (under (kindName q) .carried) n ≡ false) × (oneOf (under (kindName q) .barred) n ≡ false)
+    unfolding heldIn
+    held-none = neither (oneOf (under (kindName q) .carried) n) (oneOf (under (kindName q) .barred) n) h
 
--- ---- the order of those that stand once
-abbrev isOnce : Times → Bool
-isOnce Once = true
-isOnce (OneTo n) = false
-isOnce (UpTo n) = false
+    nothing-known : (isCarried (kindName (kindUnder q n)) ≡ false) × (isBarred (kindName (kindUnder q n)) ≡ false)
+    unfolding names nameIn parents isCarried isBarred any same bytes
+    nothing-known = rw no-kind (refl, refl)
 
-orders : (q : Kind)
-    → cond (isOnce (under (kindName q) .times)) (map (λ x. orderOf (kindAmong kinds (bytes x))) (under (kindName q) .carried)) []
-    ≡ cond (isOnce (under (kindName q) .times))
-    (map (λ x. positionOf (bytes x) (under (kindName q) .carried)) (under (kindName q) .carried)) []
-unfolding parentIn parents kindAmong orderOf positionOf kindName bytes same
-orders =
-    everywhere
-    (λ q. cond (isOnce (under (kindName q) .times)) (map (λ x. orderOf (kindAmong kinds (bytes x))) (under (kindName q) .carried)) [])
-    (λ q. cond (isOnce (under (kindName q) .times))
-    (map (λ x. positionOf (bytes x) (under (kindName q) .carried)) (under (kindName q) .carried)) []) refl
+  pub kind-carried : isCarried (kindName (kindUnder q n)) ≡ oneOf (under (kindName q) .carried) n
+  kind-carried =
+      by-cases (heldIn (kindName q) n) (λ h. ap isCarried (kind-named h) ∙ held-carried (kindName q) n h)
+      (λ h. nothing-known h .0 ∙ sym (held-none h .0))
 
-pub order-is : (q : Kind) (n : List ℕ) → under (kindName q) .times ≡ Once → oneOf (under (kindName q) .carried) n ≡ true
-    → orderOf (kindUnder q n) ≡ positionOf n (under (kindName q) .carried)
-unfolding kindUnder
-order-is q n h o =
-    rw o
-    (named (λ m. orderOf (kindAmong kinds m)) (λ m. positionOf m (under (kindName q) .carried)) n (under (kindName q) .carried)
-    (rw h at (orders q)) o)
+  pub kind-barred : isBarred (kindName (kindUnder q n)) ≡ oneOf (under (kindName q) .barred) n
+  kind-barred =
+      by-cases (heldIn (kindName q) n) (λ h. ap isBarred (kind-named h) ∙ held-barred (kindName q) n h)
+      (λ h. nothing-known h .1 ∙ sym (held-none h .1))
 
-orders-few : (k : Kind) → ltb (orderOf k) 5 ≡ true
-unfolding orderOf
-orders-few = everywhere (λ k. ltb (orderOf k) 5) (λ k. true) refl
+-- only numbers of names are those of known elements
+pub known-low : (k : ℕ) → (isCarried (kindName k) || isBarred (kindName k)) ≡ true → k < kindCount
+unfolding names parents isCarried isBarred any same bytes
+known-low k t =
+    le-or-lt kindCount k
+    (λ h. absurd (true≢false (sym t ∙ sym (past-last names kindCount refl (λ n. isCarried n || isBarred n) false refl k h)))) (λ h. h)
 
-pub order-few : (k : Kind) → orderOf k < 5
-order-few k = ltb-true (orderOf k) 5 (orders-few k)
+-- a kind is the number of its own name
+pub kind-own : (k : ℕ) → k < kindCount → kindOf (kindName k) ≡ k
+unfolding names nameIn positionOf same bytes from
+kind-own = everywhere (λ k. kindOf (kindName k)) (λ k. k) kindCount refl
 
--- no element carries more than five names
-carried-few : (q : Kind) → leb (length (under (kindName q) .carried)) 5 ≡ true
-unfolding parentIn parents kindName bytes same
-carried-few = everywhere (λ q. leb (length (under (kindName q) .carried)) 5) (λ q. true) refl
+-- no parent carries an element without a name
+pub no-name-carried : (q : List ℕ) → false ≡ oneOf (under q .carried) (bytes "?")
+unfolding parents any same bytes
+no-name-carried q = in-every-parent (λ p. false) (λ p. oneOf (p .carried) (bytes "?")) refl q refl
 
-pub held-few : (q : Kind) → length (under (kindName q) .carried) ≤ 5
-held-few q = leb-true (length (under (kindName q) .carried)) 5 (carried-few q)
+-- kinds have one name if they are one, or there is none
+no-name : (k : ℕ) → kindCount ≤ k → kindName k ≡ bytes "?"
+unfolding names
+no-name k h = sym (past-last names kindCount refl (λ n. n) (bytes "?") refl k h)
 
--- ---- the rules of a kind
-lengths-few : (k : Kind) → leb (length (rulesOf (kindName k))) 11 ≡ true
-unfolding rulesIn elements kindName bytes same
-lengths-few = everywhere (λ k. leb (length (rulesOf (kindName k))) 11) (λ k. true) refl
+own-name : (k : ℕ) → k < kindCount → same (kindName k) (bytes "?") ≡ false
+unfolding names nameIn same bytes from
+own-name = everywhere (λ k. same (kindName k) (bytes "?")) (λ k. false) kindCount refl
 
-pub rules-few : (k : Kind) → length (rulesOf (kindName k)) ≤ 11
-rules-few k = leb-true (length (rulesOf (kindName k))) 11 (lengths-few k)
+pub same-kinds : (a b : ℕ) → (eqb a b || (leb kindCount a && leb kindCount b)) ≡ same (kindName a) (kindName b)
+same-kinds a b =
+    by-cases (eqb a b) (λ t. rw (t, eqb-true a b t, same-self (kindName b))) (λ t. rw t (le-or-lt kindCount a
+    (λ h. rw (le-leb kindCount a h, no-name a h) (le-or-lt kindCount b
+    (λ g. rw (le-leb kindCount b g, no-name b g, same-self (bytes "?")))
+    (λ g. rw (lt-leb kindCount b g) (sym (same-back (kindName b) (bytes "?") (own-name b g))))))
+    (λ h. rw (lt-leb kindCount a h) (le-or-lt kindCount b
+    (λ g. rw (no-name b g) (sym (own-name a h)))
+    (λ g. by-cases (same (kindName a) (kindName b))
+    (λ u. absurd (eqb-false a b t (sym (kind-own a h) ∙ (ap kindOf (same-equal (kindName a) (kindName b) u) ∙ kind-own b g))))
+    (λ u. sym u))))))
 
-slots : (i : ℕ) (rs : List Rule) (n : List ℕ) → i + length rs ≤ 12 → askedFrom i rs n .slot ≤ 12
-unfolding askedFrom
-slots i [] n h = omega arith
-slots i (r ∷ rs) n h = by-cases (same n (bytes (r .name))) (λ e. rw e (omega arith)) (λ e. rw e (slots (i + 1) rs n (omega arith)))
+-- ---- attributes
+-- the names that have a number
+abbrev pub Listed : List ℕ → Type 0
+Listed n = oneOf attributes n ≡ true
 
-pub slot-few : (k : Kind) (n : List ℕ) → askedOf k n .slot ≤ 12
-unfolding askedOf
-slot-few k n = slots 0 (rulesOf (kindName k)) n (omega (arith, rules-few k))
+module _ (n : List ℕ) (l : Listed n) where
+  pub number-low : attributeOf n < attributeCount
+  unfolding attributes
+  number-low = one-back n attributes l .0
 
-pub required-first : (k : Kind) → firstRequired (rulesOf (kindName k)) ≡ true
-unfolding rulesIn elements firstRequired requiredIn kindName bytes same
-required-first = everywhere (λ k. firstRequired (rulesOf (kindName k))) (λ k. true) refl
+  pub number-back : attributeName (attributeOf n) ≡ n
+  number-back = one-back n attributes l .1
 
--- of any element, known or not
-apart-in : (es : List ElementRules) (n : List ℕ) → all (λ e. apart (e .rules)) es ≡ true → apart (rulesIn es n) ≡ true
-unfolding rulesIn apart all
-apart-in [] n a = refl
-apart-in (e ∷ es) n a =
-    by-cases (same n (bytes (e .name))) (λ t. rw t (and-left (apart (e .rules)) (all (λ x. apart (x .rules)) es) a))
-    (λ t. rw t (apart-in es n (and-right (apart (e .rules)) (all (λ x. apart (x .rules)) es) a)))
+pub number-own : (a : ℕ) → a < attributeCount → attributeOf (attributeName a) ≡ a
+unfolding attributes nameIn positionOf same bytes from
+number-own = everywhere (λ a. attributeOf (attributeName a)) (λ a. a) attributeCount refl
 
+module _ (m n : List ℕ) (k : knows (rulesOf m) n ≡ true) where
+  pub listed : Listed n
+  unfolding elements attributes any same bytes
+  listed =
+      ruled (oneOf attributes) (λ x. true) n (rulesOf m)
+      (in-every-element (λ rs. map (λ r. oneOf attributes (bytes (r .name))) rs) (λ rs. map (λ r. true) rs) refl m refl) k
+
+  pub one-sort : sortIn (rulesOf m) n ≡ sortOf n
+  unfolding elements sortIn allRules sortOf same bytes
+  one-sort =
+      ruled (sortIn (rulesOf m)) sortOf n (rulesOf m)
+      (in-every-element (λ rs. map (λ r. sortIn rs (bytes (r .name))) rs) (λ rs. map (λ r. sortOf (bytes (r .name))) rs) refl m refl) k
+
+-- ---- no two rules of an element have one name
 pub rules-distinct : (n : List ℕ) → apart (rulesOf n) ≡ true
-unfolding elements apart any all bytes same
-rules-distinct n = apart-in elements n refl
+unfolding elements apart knows any same bytes
+rules-distinct n = in-every-element apart (λ rs. true) refl n refl

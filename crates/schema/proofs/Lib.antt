@@ -1,5 +1,4 @@
--- Every: facts of all kinds, by computation. Chains: chains of names. Laws: what callers may cite. Checks: the tables by examples.
-pub mod Every
-pub mod Chains
+-- Tables: a table's rule at each of its entries, names found by a key. Laws: what callers may cite. Checks: the tables by examples.
+pub mod Tables
 pub mod Laws
 pub mod Checks

@@ -1,150 +1,136 @@
--- Names for the elements that a file may hold, as the code has them; what it answers, in terms of the tables. Nothing here has to be
--- believed.
-use Prim.Native.Nat.{ℕ, _+_}
+-- Numbers for the elements and the attributes that the tables name, and what the tables say of these numbers: the code's own tables. Nothing
+-- here has to be believed.
+use Prim.Native.Nat.{ℕ, _+_, _*_, _-_, _/_, _%_, _≤_, _<_}
 use Prim.Native.String.{String}
-use mathlib.Core.List.{List, [], _∷_}
-use mathlib.Core.Bool.{Bool, true, false, not, cond, _&&_, _||_}
-use lib.Dec.{eqb}
+use mathlib.Core.List.{List, [], _∷_, _++_}
+use mathlib.Core.Bool.{Bool, true, not, cond, _&&_, _||_}
+use lib.ListN.{length, getD, set, replicate, take, drop}
 use Rattle.text.specs.Texts.{bytes, same}
 use Rattle.values.specs.declared.Sort.{Sort}
 use Rattle.values.specs.declared.Sort.the-variants.{Unread}
-use Rattle.schema.specs.declared.Kind.{Kind}
-use Rattle.schema.specs.declared.Kind.the-variants.{File, Kvaser, Version, Settings, Mode, CanBus, Parameters, TriggerBlock, Triggers, MsgId, MsgDlc, ErrorFrame, Startup, Statements, Statement, Expression, Actions, StartLog, StopLog, StopLogCompletely, Filters, MessagePass, MessageStop, Channel, NotCarried, Unknown}
-use Rattle.schema.specs.declared.Asked.{Asked}
-use Rattle.schema.specs.Schema.{Rule, oneOf, under, rulesOf}
+use Rattle.schema.specs.Schema.{Rule, ElementRules, oneOf, parents, under, elements, rulesOf}
 use Rattle.lists.specs.Lists.{any}
 
--- the names of the kinds; `?` is no name
-unfoldable pub kindName : Kind → List ℕ
-kindName File = []
-kindName Kvaser = bytes "KVASER"
-kindName Version = bytes "VERSION"
-kindName Settings = bytes "SETTINGS"
-kindName Mode = bytes "MODE"
-kindName CanBus = bytes "CAN_BUS"
-kindName Parameters = bytes "PARAMETERS"
-kindName TriggerBlock = bytes "TRIGGERBLOCK"
-kindName Triggers = bytes "TRIGGERS"
-kindName MsgId = bytes "TRIGGER_MSG_ID"
-kindName MsgDlc = bytes "TRIGGER_MSG_DLC"
-kindName ErrorFrame = bytes "TRIGGER_MSG_ERROR_FRAME"
-kindName Startup = bytes "TRIGGER_STARTUP"
-kindName Statements = bytes "STATEMENTS"
-kindName Statement = bytes "STATEMENT"
-kindName Expression = bytes "EXPRESSION"
-kindName Actions = bytes "ACTIONS"
-kindName StartLog = bytes "ACTION_START_LOG"
-kindName StopLog = bytes "ACTION_STOP_LOG"
-kindName StopLogCompletely = bytes "ACTION_STOP_LOG_COMPLETELY"
-kindName Filters = bytes "FILTERS"
-kindName MessagePass = bytes "MESSAGE_PASS"
-kindName MessageStop = bytes "MESSAGE_STOP"
-kindName Channel = bytes "CHANNEL"
-kindName NotCarried = bytes "?"
-kindName Unknown = bytes "?"
+-- an element's number, its kind, is where its name stands here: 0 is the file
+unfoldable pub names : List String
+names =
+    "" ∷ "KVASER" ∷ "VERSION" ∷ "SETTINGS" ∷ "MODE" ∷ "CAN_BUS" ∷ "PARAMETERS" ∷ "TRIGGERBLOCK" ∷ "TRIGGERS" ∷ "TRIGGER_MSG_ID"
+    ∷ "TRIGGER_MSG_DLC" ∷ "TRIGGER_MSG_ERROR_FRAME" ∷ "TRIGGER_STARTUP" ∷ "STATEMENTS" ∷ "STATEMENT" ∷ "EXPRESSION" ∷ "ACTIONS"
+    ∷ "ACTION_START_LOG" ∷ "ACTION_STOP_LOG" ∷ "ACTION_STOP_LOG_COMPLETELY" ∷ "FILTERS" ∷ "MESSAGE_PASS" ∷ "MESSAGE_STOP" ∷ "CHANNEL"
+    ∷ "PARAMETERS_FD" ∷ "TRIGGER_SIGVAL" ∷ "TRIGGER_EXTERNAL" ∷ "TRIGGER_TIMER" ∷ "TRIGGER_DISK_FULL" ∷ "ACTION_EXTERNAL_PULSE"
+    ∷ "EXTERNAL_PULSE" ∷ "ACTION_ACTIVATE_AUTO_TRANSMIT_LIST" ∷ "ACTION_DEACTIVATE_AUTO_TRANSMIT_LIST" ∷ "SIGNAL_PASS" ∷ "SIGNAL_STOP"
+    ∷ "FLAG_PASS" ∷ "FLAG_STOP" ∷ "FLAGS_PASS" ∷ "FLAGS_STOP" ∷ "MESSAGE_COUNTING_PASS" ∷ "SIGNAL_COUNTING_PASS" ∷ "FLAG_COUNTING_PASS"
+    ∷ []
 
-abbrev pub kinds : List Kind
-kinds =
-    Kvaser ∷ Version ∷ Settings ∷ Mode ∷ CanBus ∷ Parameters ∷ TriggerBlock ∷ Triggers ∷ MsgId ∷ MsgDlc ∷ ErrorFrame ∷ Startup ∷ Statements
-    ∷ Statement
-    ∷ Expression ∷ Actions ∷ StartLog ∷ StopLog ∷ StopLogCompletely ∷ Filters ∷ MessagePass ∷ MessageStop ∷ Channel ∷ []
+-- an attribute's number likewise
+unfoldable pub attributes : List String
+attributes =
+    "log_all" ∷ "fifo_mode" ∷ "channel" ∷ "bitrate" ∷ "tseg1" ∷ "tseg2" ∷ "sjw" ∷ "silent" ∷ "bitrate_brs" ∷ "tseg1_brs" ∷ "tseg2_brs"
+    ∷ "sjw_brs" ∷ "iso" ∷ "name" ∷ "timeout" ∷ "msgid" ∷ "msgid_min" ∷ "can_ext" ∷ "can_fd" ∷ "protocol" ∷ "msg_field" ∷ "dlc" ∷ "dlc_min"
+    ∷ "pretrigger" ∷ "posttrigger" ∷ []
 
-unfoldable pub kindAmong : List Kind → List ℕ → Kind
-kindAmong [] n = Unknown
-kindAmong (k ∷ ks) n = cond (same n (kindName k)) k (kindAmong ks n)
+abbrev pub kindCount : ℕ
+kindCount = 42
 
--- the kind of the element n where none of that name is carried, and xs are barred
-unfoldable pub barredAmong : List String → List ℕ → Kind
-barredAmong xs n = cond (oneOf xs n) NotCarried Unknown
+abbrev pub attributeCount : ℕ
+attributeCount = 25
 
--- the kind of the element n under the kind q
-unfoldable pub kindUnder : Kind → List ℕ → Kind
-kindUnder q n = cond (oneOf (under (kindName q) .carried) n) (kindAmong kinds n) (barredAmong (under (kindName q) .barred) n)
+-- the name with a number; `?` is no name
+unfoldable pub nameIn : List String → ℕ → List ℕ
+nameIn xs k = bytes (getD xs k "?")
 
-unfoldable pub isCarried : Kind → Bool
-isCarried File = false
-isCarried Kvaser = true
-isCarried Version = true
-isCarried Settings = true
-isCarried Mode = true
-isCarried CanBus = true
-isCarried Parameters = true
-isCarried TriggerBlock = true
-isCarried Triggers = true
-isCarried MsgId = true
-isCarried MsgDlc = true
-isCarried ErrorFrame = true
-isCarried Startup = true
-isCarried Statements = true
-isCarried Statement = true
-isCarried Expression = true
-isCarried Actions = true
-isCarried StartLog = true
-isCarried StopLog = true
-isCarried StopLogCompletely = true
-isCarried Filters = true
-isCarried MessagePass = true
-isCarried MessageStop = true
-isCarried Channel = true
-isCarried NotCarried = false
-isCarried Unknown = false
+abbrev pub kindName : ℕ → List ℕ
+kindName k = nameIn names k
+
+abbrev pub attributeName : ℕ → List ℕ
+attributeName a = nameIn attributes a
 
 -- where the name n stands in a list of names; behind the last if it does not
 unfoldable pub positionOf : List ℕ → List String → ℕ
 positionOf n [] = 0
 positionOf n (x ∷ xs) = cond (same n (bytes x)) 0 (1 + positionOf n xs)
 
--- where the name of a kind stands among those of a parent that holds each once
-unfoldable pub orderOf : Kind → ℕ
-orderOf File = 0
-orderOf Kvaser = 0
-orderOf Version = 0
-orderOf Settings = 1
-orderOf Mode = 0
-orderOf CanBus = 2
-orderOf Parameters = 0
-orderOf TriggerBlock = 3
-orderOf Triggers = 0
-orderOf MsgId = 0
-orderOf MsgDlc = 0
-orderOf ErrorFrame = 0
-orderOf Startup = 0
-orderOf Statements = 1
-orderOf Statement = 0
-orderOf Expression = 0
-orderOf Actions = 1
-orderOf StartLog = 0
-orderOf StopLog = 0
-orderOf StopLogCompletely = 0
-orderOf Filters = 4
-orderOf MessagePass = 0
-orderOf MessageStop = 0
-orderOf Channel = 0
-orderOf NotCarried = 0
-orderOf Unknown = 0
+abbrev pub kindOf : List ℕ → ℕ
+kindOf n = positionOf n names
 
-abbrev pub asking : ℕ → Sort → Asked
-asking i s = record { slot = i; sort = s }
+abbrev pub attributeOf : List ℕ → ℕ
+attributeOf n = positionOf n attributes
 
--- the first rule for the attribute n, and its number from i on; 12 and no demand if there is none
-unfoldable pub askedFrom : ℕ → List Rule → List ℕ → Asked
-askedFrom i [] n = asking 12 Unread
-askedFrom i (r ∷ rs) n = cond (same n (bytes (r .name))) (asking i (r .sort)) (askedFrom (i + 1) rs n)
+-- ---- elements
+unfoldable pub isCarried : List ℕ → Bool
+isCarried n = any (λ p. oneOf (p .carried) n) parents
 
-unfoldable pub askedOf : Kind → List ℕ → Asked
-askedOf k n = askedFrom 0 (rulesOf (kindName k)) n
+unfoldable pub isBarred : List ℕ → Bool
+isBarred n = any (λ p. oneOf (p .barred) n) parents
 
--- how many of the rules are of required attributes
-unfoldable pub requiredIn : List Rule → ℕ
-requiredIn [] = 0
-requiredIn (r ∷ rs) = cond (r .required) (1 + requiredIn rs) (requiredIn rs)
+-- the kind of the element n in an element of the kind q
+unfoldable pub heldIn : List ℕ → List ℕ → Bool
+heldIn q n = oneOf (under q .carried) n || oneOf (under q .barred) n
 
--- no optional rule stands before a required one
-unfoldable pub firstRequired : List Rule → Bool
-firstRequired [] = true
-firstRequired (r ∷ rs) = (r .required || eqb (requiredIn rs) 0) && firstRequired rs
+unfoldable pub kindUnder : ℕ → List ℕ → ℕ
+kindUnder q n = cond (heldIn (kindName q) n) (kindOf n) kindCount
+
+-- ---- attributes
+-- is there a rule for the attribute n, and one that requires it
+unfoldable pub knows : List Rule → List ℕ → Bool
+knows rs n = any (λ r. same n (bytes (r .name))) rs
+
+unfoldable pub demands : List Rule → List ℕ → Bool
+demands rs n = any (λ r. r .required && same n (bytes (r .name))) rs
+
+-- may the element n have attributes
+unfoldable pub isRuled : List ℕ → Bool
+isRuled n = any (λ r. true) (rulesOf n)
+
+-- the number of the attribute n of an element of the kind k
+unfoldable pub attributeIn : ℕ → List ℕ → ℕ
+attributeIn k n = cond (knows (rulesOf (kindName k)) n) (attributeOf n) attributeCount
+
+-- what is asked of the value of the attribute n, by rules and in every element that has it
+unfoldable pub sortIn : List Rule → List ℕ → Sort
+sortIn [] n = Unread
+sortIn (r ∷ rs) n = cond (same n (bytes (r .name))) (r .sort) (sortIn rs n)
+
+unfoldable pub allRules : List ElementRules → List Rule
+allRules [] = []
+allRules (e ∷ es) = e .rules ++ allRules es
+
+unfoldable pub sortOf : List ℕ → Sort
+sortOf n = sortIn (allRules elements) n
 
 -- no two rules have one name
 unfoldable pub apart : List Rule → Bool
 apart [] = true
-apart (r ∷ rs) = not (any (λ x. same (bytes (r .name)) (bytes (x .name))) rs) && apart rs
+apart (r ∷ rs) = not (knows rs (bytes (r .name))) && apart rs
+
+-- ---- names by a key
+-- all names in a row, and where each starts, in two bytes
+unfoldable pub inRow : List String → List ℕ
+inRow [] = []
+inRow (x ∷ xs) = bytes x ++ inRow xs
+
+unfoldable pub startsFrom : ℕ → List String → List ℕ
+startsFrom i [] = i / 256 ∷ i % 256 ∷ []
+startsFrom i (x ∷ xs) = i / 256 ∷ i % 256 ∷ startsFrom (i + length (bytes x)) xs
+
+abbrev pub startAt : List ℕ → ℕ → ℕ
+startAt s k = getD s (k * 2) 0 * 256 + getD s (k * 2 + 1) 0
+
+abbrev pub part : List ℕ → List ℕ → ℕ → List ℕ
+part t s k = take (startAt s (k + 1) - startAt s k) (drop (startAt s k) t)
+
+pub record Lies (t s : List ℕ) (k : ℕ) : Type 0 where
+  pub few : k * 2 + 3 < length s
+  pub before : startAt s k ≤ startAt s (k + 1)
+  pub within : startAt s (k + 1) ≤ length t
+
+-- a number below 128 by which names are told apart, w being the weight of the last letter; and by that number, which name it may be
+unfoldable pub keyOf : ℕ → List ℕ → ℕ
+keyOf w n = (length n % 128 * 4 + getD n 0 0 + getD n (length n - 1) 0 * w + getD n (length n / 2) 0) % 128
+
+unfoldable pub keysFrom : ℕ → ℕ → List String → List ℕ → List ℕ
+keysFrom w k [] t = t
+keysFrom w k (x ∷ xs) t = keysFrom w (k + 1) xs (set t (keyOf w (bytes x)) k)
+
+abbrev pub keysOf : ℕ → List String → List ℕ
+keysOf w xs = keysFrom w 0 xs (replicate 128 0)

@@ -1,242 +1,249 @@
-// What an element asks of its attributes.
+// The attributes: their numbers, which element has which, and what is asked of their values.
 //
-// Promises: `asked_of` is what the paper's table of attributes says (specs/Schema.antt), for every kind of element and every name.
+// Promises: each answer is that of the paper's table of attributes (specs/Schema.antt), for every number and name.
 ghost use mathlib.Core.Path.{_≡_};
-ghost use Prim.Native.Nat.{_≤_};
-ghost use lib.ListN.{drop};
-ghost use Rattle.schema.specs.declared.Kind.the-variants.{Mode, Parameters, MsgId, MsgDlc, Startup, Statement, MessagePass};
-ghost use Rattle.values.specs.declared.Sort.the-variants.{Numeric, YesNo};
-ghost use Rattle.schema.specs.Schema.{triggerRules, identifierRules, rulesOf};
-ghost use Rattle.schema.specs.SchemaCode.{kindName, asking, askedFrom, askedOf};
-use crate::Asked;
-use crate::Kind;
-use text::texts;
+ghost use Rattle.schema.specs.Schema.{rulesOf};
+ghost use Rattle.schema.specs.SchemaCode.{attributeCount, kindName, attributeName, knows, demands, isRuled, attributeIn, sortOf};
+ghost use Rattle.lists.specs.BitsCode.{Marks};
+use crate::kinds;
+use crate::names;
+use lists::bits;
 use values::Sort;
 
-const NONE: usize = 12;
+pub const LOG_ALL: usize = 0;
 
-fn asks(slot: usize, sort: Sort) -> Asked
-    ensures { λ r. ⌜ r ≡ asking slot sort ⌝ }
-{
-    Asked { slot, sort }
-}
+pub const FIFO_MODE: usize = 1;
 
-// A number from lo to hi.
-fn number(slot: usize, lo: u32, hi: u32) -> Asked
-    ensures { λ r. ⌜ r ≡ asking slot (Numeric lo hi hi) ⌝ }
-{
-    asks(slot, Sort::Numeric { lo, hi, most: hi })
-}
+pub const CHANNEL: usize = 2;
 
-// YES or NO; above `most`, 1 for YES, it is known and not carried.
-fn yes_no(slot: usize, most: u32) -> Asked
-    ensures { λ r. ⌜ r ≡ asking slot (YesNo most) ⌝ }
-{
-    asks(slot, Sort::YesNo(most))
-}
+pub const BITRATE: usize = 3;
 
-fn mode_rule(name: &[u8]) -> Asked
-    ensures { λ r. ⌜ r ≡ askedOf Mode (now (name .entry)) ⌝ }
-{
-    if texts::same_text(name, b"log_all") {
-        return yes_no(0, 1);
-    }
-    if texts::same_text(name, b"fifo_mode") {
-        return yes_no(1, 1);
-    }
-    asks(NONE, Sort::Unread)
-}
+pub const TSEG1: usize = 4;
 
-fn flexible_rule(name: &[u8]) -> Asked
-    ensures { λ r. ⌜ r ≡ askedFrom 6 (drop 6 (rulesOf (kindName Parameters))) (now (name .entry)) ⌝ }
-{
-    if texts::same_text(name, b"bitrate_brs") {
-        return asks(6, Sort::Flexible);
-    }
-    if texts::same_text(name, b"tseg1_brs") {
-        return asks(7, Sort::Flexible);
-    }
-    if texts::same_text(name, b"tseg2_brs") {
-        return asks(8, Sort::Flexible);
-    }
-    if texts::same_text(name, b"sjw_brs") {
-        return asks(9, Sort::Flexible);
-    }
-    if texts::same_text(name, b"iso") {
-        return asks(10, Sort::Flexible);
-    }
-    asks(NONE, Sort::Unread)
-}
+pub const TSEG2: usize = 5;
 
-fn segment_rule(name: &[u8]) -> Asked
-    ensures { λ r. ⌜ r ≡ askedFrom 3 (drop 3 (rulesOf (kindName Parameters))) (now (name .entry)) ⌝ }
-{
-    if texts::same_text(name, b"tseg2") {
-        return number(3, 1, 255);
-    }
-    if texts::same_text(name, b"sjw") {
-        return number(4, 1, 255);
-    }
-    if texts::same_text(name, b"silent") {
-        return yes_no(5, 1);
-    }
-    flexible_rule(name)
-}
+pub const SJW: usize = 6;
 
-fn parameters_rule(name: &[u8]) -> Asked
-    ensures { λ r. ⌜ r ≡ askedOf Parameters (now (name .entry)) ⌝ }
-{
-    if texts::same_text(name, b"channel") {
-        return number(0, 0, 4);
-    }
-    if texts::same_text(name, b"bitrate") {
-        return number(1, 1, 1000000);
-    }
-    if texts::same_text(name, b"tseg1") {
-        return number(2, 1, 255);
-    }
-    segment_rule(name)
-}
+pub const SILENT: usize = 7;
 
-fn trigger_rule(name: &[u8]) -> Asked
-    ensures { λ r. ⌜ r ≡ askedFrom 0 triggerRules (now (name .entry)) ⌝ }
-{
-    if texts::same_text(name, b"name") {
-        return asks(0, Sort::TriggerName);
-    }
-    if texts::same_text(name, b"timeout") {
-        return asks(1, Sort::Timeout);
-    }
-    if texts::same_text(name, b"channel") {
-        return number(2, 0, 4);
-    }
-    asks(NONE, Sort::Unread)
-}
+pub const BITRATE_BRS: usize = 8;
 
-// The optional attributes of an identifier, the first of them at the slot `base`.
-fn option_rule(name: &[u8], base: usize) -> Asked
-    requires { ⌜ base ≤ 6 ⌝ }
-    ensures { λ r. ⌜ r ≡ askedFrom base (drop 3 identifierRules) (now (name .entry)) ⌝ }
-{
-    if texts::same_text(name, b"can_fd") {
-        return yes_no(base, 0);
-    }
-    if texts::same_text(name, b"protocol") {
-        return asks(base + 1, Sort::Protocol);
-    }
-    if texts::same_text(name, b"msg_field") {
-        return asks(base + 2, Sort::Unread);
-    }
-    asks(NONE, Sort::Unread)
-}
+pub const TSEG1_BRS: usize = 9;
 
-// The attributes of an identifier likewise.
-fn identifier_rule(name: &[u8], base: usize) -> Asked
-    requires { ⌜ base ≤ 3 ⌝ }
-    ensures { λ r. ⌜ r ≡ askedFrom base identifierRules (now (name .entry)) ⌝ }
-{
-    if texts::same_text(name, b"msgid") {
-        return number(base, 0, 536870911);
-    }
-    if texts::same_text(name, b"msgid_min") {
-        return number(base + 1, 0, 536870911);
-    }
-    if texts::same_text(name, b"can_ext") {
-        return yes_no(base + 2, 1);
-    }
-    option_rule(name, base + 3)
-}
+pub const TSEG2_BRS: usize = 10;
 
-fn msg_id_rule(name: &[u8]) -> Asked
-    ensures { λ r. ⌜ r ≡ askedOf MsgId (now (name .entry)) ⌝ }
-{
-    let first = trigger_rule(name);
-    if first.slot < NONE {
-        return first;
-    }
-    identifier_rule(name, 3)
-}
+pub const SJW_BRS: usize = 11;
 
-fn msg_dlc_rule(name: &[u8]) -> Asked
-    ensures { λ r. ⌜ r ≡ askedOf MsgDlc (now (name .entry)) ⌝ }
-{
-    let first = trigger_rule(name);
-    if first.slot < NONE {
-        return first;
-    }
-    if texts::same_text(name, b"dlc") {
-        return number(3, 0, 8);
-    }
-    if texts::same_text(name, b"dlc_min") {
-        return number(4, 0, 8);
-    }
-    if texts::same_text(name, b"can_fd") {
-        return yes_no(5, 0);
-    }
-    asks(NONE, Sort::Unread)
-}
+pub const ISO: usize = 12;
 
-fn startup_rule(name: &[u8]) -> Asked
-    ensures { λ r. ⌜ r ≡ askedOf Startup (now (name .entry)) ⌝ }
-{
-    if texts::same_text(name, b"name") {
-        return asks(0, Sort::TriggerName);
-    }
-    if texts::same_text(name, b"timeout") {
-        return asks(1, Sort::Timeout);
-    }
-    asks(NONE, Sort::Unread)
-}
+pub const NAME: usize = 13;
 
-fn statement_rule(name: &[u8]) -> Asked
-    ensures { λ r. ⌜ r ≡ askedOf Statement (now (name .entry)) ⌝ }
-{
-    if texts::same_text(name, b"pretrigger") {
-        return asks(
-            0,
-            Sort::Numeric {
-                lo: 0,
-                hi: 1000000000,
-                most: 0,
-            },
-        );
-    }
-    if texts::same_text(name, b"posttrigger") {
-        return number(1, 0, 1000000000);
-    }
-    asks(NONE, Sort::Unread)
-}
+pub const TIMEOUT: usize = 14;
 
-// Pass and stop filters have the same attributes.
-fn filter_rule(name: &[u8]) -> Asked
-    ensures { λ r. ⌜ r ≡ askedOf MessagePass (now (name .entry)) ⌝ }
-{
-    let first = identifier_rule(name, 0);
-    if first.slot < NONE {
-        return first;
-    }
-    if texts::same_text(name, b"dlc") {
-        return number(6, 0, 8);
-    }
-    if texts::same_text(name, b"dlc_min") {
-        return number(7, 0, 8);
-    }
-    asks(NONE, Sort::Unread)
-}
+pub const MSGID: usize = 15;
 
-// What an element of the kind asks of its attribute with that name.
-pub fn asked_of(kind: Kind, name: &[u8]) -> Asked
-    ensures { λ r. ⌜ r ≡ askedOf kind (now (name .entry)) ⌝ }
+pub const MSGID_MIN: usize = 16;
+
+pub const CAN_EXT: usize = 17;
+
+pub const CAN_FD: usize = 18;
+
+pub const PROTOCOL: usize = 19;
+
+pub const MSG_FIELD: usize = 20;
+
+pub const DLC: usize = 21;
+
+pub const DLC_MIN: usize = 22;
+
+pub const PRETRIGGER: usize = 23;
+
+pub const POSTTRIGGER: usize = 24;
+
+// None of them.
+pub const ATTRIBUTES: usize = 25;
+
+// ---- sets of them
+const TRIGGER: u64 = (1 << NAME) | (1 << TIMEOUT) | (1 << CHANNEL);
+
+const IDENTIFIER: u64 = (1 << MSGID) | (1 << MSGID_MIN) | (1 << CAN_EXT);
+
+const OPTIONS: u64 = (1 << CAN_FD) | (1 << PROTOCOL) | (1 << MSG_FIELD);
+
+const LENGTHS: u64 = (1 << DLC) | (1 << DLC_MIN);
+
+const MODES: u64 = (1 << LOG_ALL) | (1 << FIFO_MODE);
+
+const TIMING: u64 = (1 << CHANNEL)
+    | (1 << BITRATE)
+    | (1 << TSEG1)
+    | (1 << TSEG2)
+    | (1 << SJW)
+    | (1 << SILENT);
+
+const FLEXIBLE: u64 = (1 << BITRATE_BRS)
+    | (1 << TSEG1_BRS)
+    | (1 << TSEG2_BRS)
+    | (1 << SJW_BRS)
+    | (1 << ISO);
+
+const STARTUP: u64 = (1 << NAME) | (1 << TIMEOUT);
+
+const TIMES: u64 = (1 << PRETRIGGER) | (1 << POSTTRIGGER);
+
+const MSG_ID_MUST: u64 = TRIGGER | IDENTIFIER;
+
+const MSG_DLC_MUST: u64 = TRIGGER | LENGTHS;
+
+const PARAMETERS_ALL: u64 = TIMING | FLEXIBLE;
+
+const MSG_ID_ALL: u64 = TRIGGER | IDENTIFIER | OPTIONS;
+
+const MSG_DLC_ALL: u64 = TRIGGER | LENGTHS | (1 << CAN_FD);
+
+const FILTER_ALL: u64 = IDENTIFIER | OPTIONS | LENGTHS;
+
+// The attributes that an element must have.
+pub fn musts_of(kind: usize) -> u64
+    ensures { λ r. ⌜ Marks 64 (λ a. demands (rulesOf (kindName kind)) (attributeName a)) r ⌝ }
 {
     match kind {
-        Kind::Mode => mode_rule(name),
-        Kind::Parameters => parameters_rule(name),
-        Kind::MsgId => msg_id_rule(name),
-        Kind::MsgDlc => msg_dlc_rule(name),
-        Kind::ErrorFrame => trigger_rule(name),
-        Kind::Startup => startup_rule(name),
-        Kind::Statement => statement_rule(name),
-        Kind::MessagePass | Kind::MessageStop => filter_rule(name),
-        _ => asks(NONE, Sort::Unread),
+        kinds::MODE => MODES,
+        kinds::PARAMETERS => TIMING,
+        kinds::TRIGGER_MSG_ID => MSG_ID_MUST,
+        kinds::TRIGGER_MSG_DLC => MSG_DLC_MUST,
+        kinds::TRIGGER_MSG_ERROR_FRAME => TRIGGER,
+        kinds::TRIGGER_STARTUP => STARTUP,
+        kinds::STATEMENT => TIMES,
+        kinds::MESSAGE_PASS => IDENTIFIER,
+        kinds::MESSAGE_STOP => IDENTIFIER,
+        _ => 0,
+    }
+}
+
+// The attributes that an element may have.
+fn all_of(kind: usize) -> u64
+    ensures { λ r. ⌜ Marks attributeCount (λ a. knows (rulesOf (kindName kind)) (attributeName a)) r ⌝ }
+{
+    match kind {
+        kinds::MODE => MODES,
+        kinds::PARAMETERS => PARAMETERS_ALL,
+        kinds::TRIGGER_MSG_ID => MSG_ID_ALL,
+        kinds::TRIGGER_MSG_DLC => MSG_DLC_ALL,
+        kinds::TRIGGER_MSG_ERROR_FRAME => TRIGGER,
+        kinds::TRIGGER_STARTUP => STARTUP,
+        kinds::STATEMENT => TIMES,
+        kinds::MESSAGE_PASS => FILTER_ALL,
+        kinds::MESSAGE_STOP => FILTER_ALL,
+        _ => 0,
+    }
+}
+
+// May an element of the kind have attributes?
+pub fn is_ruled(kind: usize) -> bool
+    ensures { λ r. ⌜ r ≡ isRuled (kindName kind) ⌝ }
+{
+    match kind {
+        kinds::MODE => true,
+        kinds::PARAMETERS => true,
+        kinds::TRIGGER_MSG_ID => true,
+        kinds::TRIGGER_MSG_DLC => true,
+        kinds::TRIGGER_MSG_ERROR_FRAME => true,
+        kinds::TRIGGER_STARTUP => true,
+        kinds::STATEMENT => true,
+        kinds::MESSAGE_PASS => true,
+        kinds::MESSAGE_STOP => true,
+        _ => false,
+    }
+}
+
+// The number of the attribute with that name that an element of the kind may have.
+pub fn attribute_in(kind: usize, name: &[u8]) -> usize
+    ensures { λ r. ⌜ r ≡ attributeIn kind (now (name .entry)) ⌝ }
+{
+    let a = names::attribute_of(name);
+    if ATTRIBUTES <= a {
+        return ATTRIBUTES;
+    }
+    let all = all_of(kind);
+    if bits::has_bit(all, a) {
+        return a;
+    }
+    ATTRIBUTES
+}
+
+// ---- the numbers that attributes ask for
+const CHANNELS: Sort = Sort::Numeric {
+    lo: 0,
+    hi: 4,
+    most: 4,
+};
+
+const BIT_RATES: Sort = Sort::Numeric {
+    lo: 1,
+    hi: 1000000,
+    most: 1000000,
+};
+
+const SEGMENTS: Sort = Sort::Numeric {
+    lo: 1,
+    hi: 255,
+    most: 255,
+};
+
+const IDS: Sort = Sort::Numeric {
+    lo: 0,
+    hi: 536870911,
+    most: 536870911,
+};
+
+const LENGTH_CODES: Sort = Sort::Numeric {
+    lo: 0,
+    hi: 8,
+    most: 8,
+};
+
+const NO_TIME: Sort = Sort::Numeric {
+    lo: 0,
+    hi: 1000000000,
+    most: 0,
+};
+
+const SPANS: Sort = Sort::Numeric {
+    lo: 0,
+    hi: 1000000000,
+    most: 1000000000,
+};
+
+// What is asked of the value of an attribute, in every element that has it.
+pub fn sort_of(attribute: usize) -> Sort
+    ensures { λ r. ⌜ r ≡ sortOf (attributeName attribute) ⌝ }
+{
+    match attribute {
+        LOG_ALL => Sort::YesNo(1),
+        FIFO_MODE => Sort::YesNo(1),
+        SILENT => Sort::YesNo(1),
+        CAN_EXT => Sort::YesNo(1),
+        CHANNEL => CHANNELS,
+        BITRATE => BIT_RATES,
+        TSEG1 => SEGMENTS,
+        TSEG2 => SEGMENTS,
+        SJW => SEGMENTS,
+        BITRATE_BRS => Sort::Flexible,
+        TSEG1_BRS => Sort::Flexible,
+        TSEG2_BRS => Sort::Flexible,
+        SJW_BRS => Sort::Flexible,
+        ISO => Sort::Flexible,
+        NAME => Sort::TriggerName,
+        TIMEOUT => Sort::Timeout,
+        MSGID => IDS,
+        MSGID_MIN => IDS,
+        CAN_FD => Sort::YesNo(0),
+        PROTOCOL => Sort::Protocol,
+        DLC => LENGTH_CODES,
+        DLC_MIN => LENGTH_CODES,
+        PRETRIGGER => NO_TIME,
+        POSTTRIGGER => SPANS,
+        _ => Sort::Unread,
     }
 }

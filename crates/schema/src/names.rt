@@ -1,250 +1,123 @@
-// Which element a name is, under its parent.
+// Names to numbers: a key made of a name's length and three of its letters says which name it can be, and that one is compared.
 //
-// Promises: `kind_under` is what the paper's table of elements says (specs/Schema.antt), for every kind of parent and every name.
+// Promises: `kind_of` and `attribute_of` answer every name by its place in the lists of specs/SchemaCode.antt.
 ghost use mathlib.Core.Path.{_≡_};
-ghost use lib.ListN.{drop};
-ghost use Rattle.schema.specs.declared.Kind.the-variants.{File, Kvaser, Settings, CanBus, TriggerBlock, Triggers, Statements, Statement, Actions, Filters, MessagePass};
-ghost use Rattle.schema.specs.Schema.{under};
-ghost use Rattle.schema.specs.SchemaCode.{kindName, barredAmong, kindUnder};
-use crate::Kind;
+ghost use Prim.Native.Nat.{_+_, _*_, _<_};
+ghost use lib.ListN.{length, getD};
+ghost use Rattle.text.specs.Texts.{same};
+ghost use Rattle.schema.specs.SchemaCode.{names, attributes, kindCount, attributeCount, kindName, attributeName, kindOf, attributeOf, keyOf, keysOf, startAt, part, Lies};
+use crate::attributes;
+use crate::kinds;
 use text::texts;
 
-fn in_file(name: &[u8]) -> Kind
-    ensures { λ r. ⌜ r ≡ kindUnder File (now (name .entry)) ⌝ }
+// The names in a row; where each starts, in two bytes; and by a key, which name it can be. `tools/names` prints them from the lists.
+const ELEMENTS: [u8; 557] =
+    *b"KVASERVERSIONSETTINGSMODECAN_BUSPARAMETERSTRIGGERBLOCKTRIGGERSTRIGGER_MSG_IDTRIGGER_MSG_DLCTRIGGER_MSG_ERROR_FRAMETRIGGER_STARTUPSTATEMENTSSTATEMENTEXPRESSIONACTIONSACTION_START_LOGACTION_STOP_LOGACTION_STOP_LOG_COMPLETELYFILTERSMESSAGE_PASSMESSAGE_STOPCHANNELPARAMETERS_FDTRIGGER_SIGVALTRIGGER_EXTERNALTRIGGER_TIMERTRIGGER_DISK_FULLACTION_EXTERNAL_PULSEEXTERNAL_PULSEACTION_ACTIVATE_AUTO_TRANSMIT_LISTACTION_DEACTIVATE_AUTO_TRANSMIT_LISTSIGNAL_PASSSIGNAL_STOPFLAG_PASSFLAG_STOPFLAGS_PASSFLAGS_STOPMESSAGE_COUNTING_PASSSIGNAL_COUNTING_PASSFLAG_COUNTING_PASS";
+
+const ELEMENTS_STARTS: [u8; 86] =
+    *b"\x00\x00\x00\x00\x00\x06\x00\x0d\x00\x15\x00\x19\x00\x20\x00\x2a\x00\x36\x00\x3e\x00\x4c\x00\x5b\x00\x72\x00\x81\x00\x8b\x00\x94\x00\x9e\x00\xa5\x00\xb5\x00\xc4\x00\xde\x00\xe5\x00\xf1\x00\xfd\x01\x04\x01\x11\x01\x1f\x01\x2f\x01\x3c\x01\x4d\x01\x62\x01\x70\x01\x92\x01\xb6\x01\xc1\x01\xcc\x01\xd5\x01\xde\x01\xe8\x01\xf2\x02\x07\x02\x1b\x02\x2d";
+
+const ELEMENTS_KEYS: [u8; 128] =
+    *b"\x00\x00\x28\x00\x00\x00\x0b\x27\x00\x00\x00\x00\x00\x00\x00\x07\x00\x00\x00\x00\x00\x00\x00\x00\x04\x00\x0f\x00\x00\x1a\x00\x02\x1c\x00\x00\x00\x00\x00\x00\x00\x00\x00\x00\x00\x00\x00\x20\x19\x00\x00\x16\x00\x00\x00\x00\x10\x00\x24\x1f\x22\x01\x26\x00\x00\x1e\x00\x00\x00\x18\x00\x00\x14\x00\x00\x00\x13\x08\x03\x06\x05\x0a\x1d\x00\x15\x00\x00\x00\x09\x0e\x0d\x23\x00\x21\x12\x25\x0c\x1b\x00\x11\x00\x00\x00\x00\x00\x00\x00\x00\x00\x00\x00\x00\x00\x00\x17\x00\x29\x00\x00\x00\x00\x00\x00\x00\x00\x00\x00\x00\x00";
+
+const ATTRIBUTES: [u8; 174] =
+    *b"log_allfifo_modechannelbitratetseg1tseg2sjwsilentbitrate_brstseg1_brstseg2_brssjw_brsisonametimeoutmsgidmsgid_mincan_extcan_fdprotocolmsg_fielddlcdlc_minpretriggerposttrigger";
+
+const ATTRIBUTES_STARTS: [u8; 52] =
+    *b"\x00\x00\x00\x07\x00\x10\x00\x17\x00\x1e\x00\x23\x00\x28\x00\x2b\x00\x31\x00\x3c\x00\x45\x00\x4e\x00\x55\x00\x58\x00\x5c\x00\x63\x00\x68\x00\x71\x00\x78\x00\x7e\x00\x86\x00\x8f\x00\x92\x00\x99\x00\xa3\x00\xae";
+
+const ATTRIBUTES_KEYS: [u8; 128] =
+    *b"\x00\x00\x00\x00\x09\x0a\x00\x15\x06\x00\x00\x13\x00\x00\x00\x00\x00\x00\x00\x00\x00\x00\x00\x00\x00\x00\x00\x00\x00\x16\x12\x00\x00\x00\x00\x17\x00\x00\x00\x00\x00\x0b\x00\x00\x0f\x00\x00\x00\x18\x00\x11\x10\x00\x00\x04\x00\x00\x00\x00\x14\x00\x08\x00\x0c\x00\x00\x00\x00\x07\x00\x01\x00\x0d\x0e\x00\x00\x00\x03\x00\x05\x00\x00\x00\x00\x00\x00\x00\x00\x00\x00\x00\x00\x00\x00\x00\x00\x00\x00\x00\x00\x00\x00\x00\x00\x00\x00\x00\x00\x00\x00\x00\x00\x00\x00\x00\x00\x00\x00\x00\x00\x00\x02\x00\x00\x00\x00\x00\x00";
+
+fn wide(b: u8) -> usize
+    ensures { λ r. ⌜ (r ≡ b) × (r < 256) ⌝ }
 {
-    if texts::same_text(name, b"KVASER") {
-        return Kind::Kvaser;
-    }
-    Kind::Unknown
+    b as usize
 }
 
-fn in_kvaser(name: &[u8]) -> Kind
-    ensures { λ r. ⌜ r ≡ kindUnder Kvaser (now (name .entry)) ⌝ }
+// A number by which names are told apart, if the last letter has a good weight.
+fn key_of(name: &[u8], weight: usize) -> usize
+    requires { ⌜ weight < 64 ⌝ }
+    ensures { λ r. ⌜ (r ≡ keyOf weight (now (name .entry))) × (r < 128) ⌝ }
 {
-    if texts::same_text(name, b"VERSION") {
-        return Kind::Version;
+    let n = name.len();
+    if n == 0 {
+        return 0;
     }
-    if texts::same_text(name, b"SETTINGS") {
-        return Kind::Settings;
-    }
-    if texts::same_text(name, b"CAN_BUS") {
-        return Kind::CanBus;
-    }
-    if texts::same_text(name, b"TRIGGERBLOCK") {
-        return Kind::TriggerBlock;
-    }
-    if texts::same_text(name, b"FILTERS") {
-        return Kind::Filters;
-    }
-    Kind::Unknown
+    let first = wide(name[0]);
+    let last = wide(name[n - 1]);
+    let middle = wide(name[n / 2]);
+    (n % 128 * 4 + first + last * weight + middle) % 128
 }
 
-fn in_settings(name: &[u8]) -> Kind
-    ensures { λ r. ⌜ r ≡ kindUnder Settings (now (name .entry)) ⌝ }
+fn start_at(starts: &[u8], k: usize) -> usize
+    requires { ⌜ k * 2 + 1 < length (now starts) ⌝ }
+    ensures { λ r. ⌜ r ≡ startAt (now (starts .entry)) k ⌝ }
 {
-    if texts::same_text(name, b"MODE") {
-        return Kind::Mode;
-    }
-    Kind::Unknown
+    let high = wide(starts[k * 2]);
+    let low = wide(starts[k * 2 + 1]);
+    high * 256 + low
 }
 
-fn in_can_bus(name: &[u8]) -> Kind
-    ensures { λ r. ⌜ r ≡ kindUnder CanBus (now (name .entry)) ⌝ }
+// Is the k-th of the names that stand in a row, each from its start to the next one's, that name?
+fn is_named(spelt: &[u8], starts: &[u8], k: usize, name: &[u8]) -> bool
+    requires { ⌜ Lies (now spelt) (now starts) k ⌝ }
+    ensures { λ r. ⌜ r ≡ same (part (now (spelt .entry)) (now (starts .entry)) k) (now (name .entry)) ⌝ }
 {
-    if texts::same_text(name, b"PARAMETERS") {
-        return Kind::Parameters;
-    }
-    if texts::same_text(name, b"PARAMETERS_FD") {
-        return Kind::NotCarried;
-    }
-    Kind::Unknown
+    let a = start_at(starts, k);
+    let e = start_at(starts, k + 1);
+    texts::same_text(&spelt[a..e], name)
 }
 
-fn in_trigger_block(name: &[u8]) -> Kind
-    ensures { λ r. ⌜ r ≡ kindUnder TriggerBlock (now (name .entry)) ⌝ }
+// The only element whose name may have the key.
+fn kind_by(key: usize) -> usize
+    requires { ⌜ key < 128 ⌝ }
+    ensures { λ r. ⌜ (r ≡ getD (keysOf 11 names) key 0) × (r < kindCount) ⌝ }
 {
-    if texts::same_text(name, b"TRIGGERS") {
-        return Kind::Triggers;
-    }
-    if texts::same_text(name, b"STATEMENTS") {
-        return Kind::Statements;
-    }
-    Kind::Unknown
+    wide(ELEMENTS_KEYS[key])
 }
 
-fn barred_trigger(name: &[u8]) -> Kind
-    ensures { λ r. ⌜ r ≡ barredAmong (under (kindName Triggers) .barred) (now (name .entry)) ⌝ }
+fn is_kind(k: usize, name: &[u8]) -> bool
+    requires { ⌜ k < kindCount ⌝ }
+    ensures { λ r. ⌜ r ≡ same (kindName k) (now (name .entry)) ⌝ }
 {
-    if texts::same_text(name, b"TRIGGER_SIGVAL") {
-        return Kind::NotCarried;
-    }
-    if texts::same_text(name, b"TRIGGER_EXTERNAL") {
-        return Kind::NotCarried;
-    }
-    if texts::same_text(name, b"TRIGGER_TIMER") {
-        return Kind::NotCarried;
-    }
-    if texts::same_text(name, b"TRIGGER_DISK_FULL") {
-        return Kind::NotCarried;
-    }
-    Kind::Unknown
+    is_named(&ELEMENTS, &ELEMENTS_STARTS, k, name)
 }
 
-fn in_triggers(name: &[u8]) -> Kind
-    ensures { λ r. ⌜ r ≡ kindUnder Triggers (now (name .entry)) ⌝ }
+// The kind of the elements with that name.
+pub(crate) fn kind_of(name: &[u8]) -> usize
+    ensures { λ r. ⌜ r ≡ kindOf (now (name .entry)) ⌝ }
 {
-    if texts::same_text(name, b"TRIGGER_MSG_ID") {
-        return Kind::MsgId;
+    let key = key_of(name, 11);
+    let k = kind_by(key);
+    if is_kind(k, name) {
+        return k;
     }
-    if texts::same_text(name, b"TRIGGER_MSG_DLC") {
-        return Kind::MsgDlc;
-    }
-    if texts::same_text(name, b"TRIGGER_MSG_ERROR_FRAME") {
-        return Kind::ErrorFrame;
-    }
-    if texts::same_text(name, b"TRIGGER_STARTUP") {
-        return Kind::Startup;
-    }
-    barred_trigger(name)
+    kinds::KINDS
 }
 
-fn in_statements(name: &[u8]) -> Kind
-    ensures { λ r. ⌜ r ≡ kindUnder Statements (now (name .entry)) ⌝ }
+fn attribute_by(key: usize) -> usize
+    requires { ⌜ key < 128 ⌝ }
+    ensures { λ r. ⌜ (r ≡ getD (keysOf 25 attributes) key 0) × (r < attributeCount) ⌝ }
 {
-    if texts::same_text(name, b"STATEMENT") {
-        return Kind::Statement;
-    }
-    Kind::Unknown
+    wide(ATTRIBUTES_KEYS[key])
 }
 
-fn in_statement(name: &[u8]) -> Kind
-    ensures { λ r. ⌜ r ≡ kindUnder Statement (now (name .entry)) ⌝ }
+fn is_attribute(a: usize, name: &[u8]) -> bool
+    requires { ⌜ a < attributeCount ⌝ }
+    ensures { λ r. ⌜ r ≡ same (attributeName a) (now (name .entry)) ⌝ }
 {
-    if texts::same_text(name, b"EXPRESSION") {
-        return Kind::Expression;
-    }
-    if texts::same_text(name, b"ACTIONS") {
-        return Kind::Actions;
-    }
-    Kind::Unknown
+    is_named(&ATTRIBUTES, &ATTRIBUTES_STARTS, a, name)
 }
 
-fn barred_action(name: &[u8]) -> Kind
-    ensures { λ r. ⌜ r ≡ barredAmong (under (kindName Actions) .barred) (now (name .entry)) ⌝ }
+// The number of the attributes with that name.
+pub(crate) fn attribute_of(name: &[u8]) -> usize
+    ensures { λ r. ⌜ r ≡ attributeOf (now (name .entry)) ⌝ }
 {
-    if texts::same_text(name, b"ACTION_EXTERNAL_PULSE") {
-        return Kind::NotCarried;
+    let key = key_of(name, 25);
+    let a = attribute_by(key);
+    if is_attribute(a, name) {
+        return a;
     }
-    if texts::same_text(name, b"EXTERNAL_PULSE") {
-        return Kind::NotCarried;
-    }
-    if texts::same_text(name, b"ACTION_ACTIVATE_AUTO_TRANSMIT_LIST") {
-        return Kind::NotCarried;
-    }
-    if texts::same_text(name, b"ACTION_DEACTIVATE_AUTO_TRANSMIT_LIST") {
-        return Kind::NotCarried;
-    }
-    Kind::Unknown
-}
-
-fn in_actions(name: &[u8]) -> Kind
-    ensures { λ r. ⌜ r ≡ kindUnder Actions (now (name .entry)) ⌝ }
-{
-    if texts::same_text(name, b"ACTION_START_LOG") {
-        return Kind::StartLog;
-    }
-    if texts::same_text(name, b"ACTION_STOP_LOG") {
-        return Kind::StopLog;
-    }
-    if texts::same_text(name, b"ACTION_STOP_LOG_COMPLETELY") {
-        return Kind::StopLogCompletely;
-    }
-    barred_action(name)
-}
-
-fn barred_count(name: &[u8]) -> Kind
-    ensures { λ r. ⌜ r ≡ barredAmong (drop 6 (under (kindName Filters) .barred)) (now (name .entry)) ⌝ }
-{
-    if texts::same_text(name, b"MESSAGE_COUNTING_PASS") {
-        return Kind::NotCarried;
-    }
-    if texts::same_text(name, b"SIGNAL_COUNTING_PASS") {
-        return Kind::NotCarried;
-    }
-    if texts::same_text(name, b"FLAG_COUNTING_PASS") {
-        return Kind::NotCarried;
-    }
-    Kind::Unknown
-}
-
-fn barred_flag(name: &[u8]) -> Kind
-    ensures { λ r. ⌜ r ≡ barredAmong (drop 2 (under (kindName Filters) .barred)) (now (name .entry)) ⌝ }
-{
-    if texts::same_text(name, b"FLAG_PASS") {
-        return Kind::NotCarried;
-    }
-    if texts::same_text(name, b"FLAG_STOP") {
-        return Kind::NotCarried;
-    }
-    if texts::same_text(name, b"FLAGS_PASS") {
-        return Kind::NotCarried;
-    }
-    if texts::same_text(name, b"FLAGS_STOP") {
-        return Kind::NotCarried;
-    }
-    barred_count(name)
-}
-
-fn barred_filter(name: &[u8]) -> Kind
-    ensures { λ r. ⌜ r ≡ barredAmong (under (kindName Filters) .barred) (now (name .entry)) ⌝ }
-{
-    if texts::same_text(name, b"SIGNAL_PASS") {
-        return Kind::NotCarried;
-    }
-    if texts::same_text(name, b"SIGNAL_STOP") {
-        return Kind::NotCarried;
-    }
-    barred_flag(name)
-}
-
-fn in_filters(name: &[u8]) -> Kind
-    ensures { λ r. ⌜ r ≡ kindUnder Filters (now (name .entry)) ⌝ }
-{
-    if texts::same_text(name, b"MESSAGE_PASS") {
-        return Kind::MessagePass;
-    }
-    if texts::same_text(name, b"MESSAGE_STOP") {
-        return Kind::MessageStop;
-    }
-    barred_filter(name)
-}
-
-// Pass and stop filters hold the same.
-fn in_filter(name: &[u8]) -> Kind
-    ensures { λ r. ⌜ r ≡ kindUnder MessagePass (now (name .entry)) ⌝ }
-{
-    if texts::same_text(name, b"CHANNEL") {
-        return Kind::Channel;
-    }
-    Kind::Unknown
-}
-
-// The kind of an element with that name under an element of the kind `parent`.
-pub fn kind_under(parent: Kind, name: &[u8]) -> Kind
-    ensures { λ r. ⌜ r ≡ kindUnder parent (now (name .entry)) ⌝ }
-{
-    match parent {
-        Kind::File => in_file(name),
-        Kind::Kvaser => in_kvaser(name),
-        Kind::Settings => in_settings(name),
-        Kind::CanBus => in_can_bus(name),
-        Kind::TriggerBlock => in_trigger_block(name),
-        Kind::Triggers => in_triggers(name),
-        Kind::Statements => in_statements(name),
-        Kind::Statement => in_statement(name),
-        Kind::Actions => in_actions(name),
-        Kind::Filters => in_filters(name),
-        Kind::MessagePass | Kind::MessageStop => in_filter(name),
-        _ => Kind::Unknown,
-    }
+    attributes::ATTRIBUTES
 }

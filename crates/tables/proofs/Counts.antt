@@ -12,12 +12,8 @@ use Rattle.text.specs.Texts.{bytes, same}
 use Rattle.lists.proofs.Cases.{by-cases, le-or-lt}
 use Rattle.text.proofs.Equal.{same-equal}
 use Rattle.shape.specs.Shape.{Node, node, Items}
-use Rattle.schema.specs.declared.Kind.{Kind}
-use Rattle.schema.specs.declared.Kind.the-variants.{File, Statement}
 use Rattle.schema.specs.declared.Times.the-variants.{Once}
 use Rattle.schema.specs.Schema.{Parent, parents, parentIn, oneOf, under}
-use Rattle.schema.specs.SchemaCode.{kindName, kindAmong}
-use Rattle.schema.proofs.Every.{everywhere}
 use Rattle.file_rules.specs.Element.{Known, _at_if_, ownFaults}
 use Rattle.lists.proofs.Parts.{neither}
 use Rattle.file_rules.specs.Reading.{is}
@@ -40,13 +36,12 @@ kept-sum p [] = refl
 kept-sum p (k ∷ ks) = let h = kept-sum p ks in by-cases (p (k .name)) (λ t. rw t (omega (arith, h))) (λ t. rw t (omega (arith, h)))
 
 module _ (p : List ℕ → Bool) (settled : Settled (one-if p)) where
-  kept-known : (x : Node) → Clean (knownElements x) → length (kept (λ k. p (k .name)) (knownElements x)) ≤ most (one-if p) 8 File
+  kept-known : (x : Node) → Clean (knownElements x) → length (kept (λ k. p (k .name)) (knownElements x)) ≤ most (one-if p) 8 []
   kept-known x c = let a = few-known (one-if p) settled x c in let b = kept-sum p (knownElements x) in omega (arith, a, b)
 
-  kept-inside : (i : Items) (q : Kind) → Clean (knownIn (under (kindName q)) [] i)
-      → length (kept (λ k. p (k .name)) (knownIn (under (kindName q)) [] i)) ≤ most (one-if p) 8 q
-  kept-inside i q c = let a = few-inside (one-if p) settled i q c in let b = kept-sum p (knownIn (under (kindName q)) [] i) in
-      omega (arith, a, b)
+  kept-inside : (i : Items) (q : List ℕ) → Clean (knownIn (under q) [] i)
+      → length (kept (λ k. p (k .name)) (knownIn (under q) [] i)) ≤ most (one-if p) 8 q
+  kept-inside i q c = let a = few-inside (one-if p) settled i q c in let b = kept-sum p (knownIn (under q) [] i) in omega (arith, a, b)
 
 -- ---- at most
 abbrev among : String → List ℕ → Bool
@@ -57,27 +52,27 @@ called n m = same m (bytes n)
 
 module _ (x : Node) (e : elementFaults x ≡ []) where
   pub few-triggers : length (kept (isIn "TRIGGERS") (knownElements x)) ≤ 32
-  unfolding most left top parentIn parents kindAmong any kindName bytes same
+  unfolding most left top parentIn parents any bytes same
   few-triggers =
-      kept-known (among "TRIGGERS") (everywhere (most (one-if (among "TRIGGERS")) 9) (most (one-if (among "TRIGGERS")) 8) refl) x
+      kept-known (among "TRIGGERS") refl x
       ((faultless-parts x e) .0)
 
   pub few-filters : length (kept (isIn "FILTERS") (knownElements x)) ≤ 32
-  unfolding most left top parentIn parents kindAmong any kindName bytes same
+  unfolding most left top parentIn parents any bytes same
   few-filters =
-      kept-known (among "FILTERS") (everywhere (most (one-if (among "FILTERS")) 9) (most (one-if (among "FILTERS")) 8) refl) x
+      kept-known (among "FILTERS") refl x
       ((faultless-parts x e) .0)
 
   pub few-statements : length (kept (is "STATEMENT") (knownElements x)) ≤ 16
-  unfolding most left top parentIn parents kindAmong any kindName bytes same
+  unfolding most left top parentIn parents any bytes same
   few-statements =
-      kept-known (called "STATEMENT") (everywhere (most (one-if (called "STATEMENT")) 9) (most (one-if (called "STATEMENT")) 8) refl) x
+      kept-known (called "STATEMENT") refl x
       ((faultless-parts x e) .0)
 
   pub few-parameters : length (kept (is "PARAMETERS") (knownElements x)) ≤ 5
-  unfolding most left top parentIn parents kindAmong any kindName bytes same
+  unfolding most left top parentIn parents any bytes same
   few-parameters =
-      kept-known (called "PARAMETERS") (everywhere (most (one-if (called "PARAMETERS")) 9) (most (one-if (called "PARAMETERS")) 8) refl) x
+      kept-known (called "PARAMETERS") refl x
       ((faultless-parts x e) .0)
 
 -- ---- known elements that stand together among others
@@ -258,16 +253,12 @@ only-one (k ∷ []) h g = (k, refl)
 only-one (k ∷ m ∷ ks) h g = absurd (omega arith)
 
 formed : (k : Known) → Clean (within k) → lacks k ≡ false → Formed k
-unfolding most left top parentIn parents kindAmong any kindName bytes same kept
+unfolding most left top parentIn parents any bytes same kept
 formed k c l t =
     let m : k .name ≡ bytes "STATEMENT" = same-equal (k .name) (bytes "STATEMENT") t in
-    let d : Clean (knownIn (under (kindName Statement)) [] (k .items)) = rw m at c in
-    let a =
-    kept-inside (among "ACTIONS") (everywhere (most (one-if (among "ACTIONS")) 9) (most (one-if (among "ACTIONS")) 8) refl) (k .items)
-    Statement d in
-    let x =
-    kept-inside (called "EXPRESSION") (everywhere (most (one-if (called "EXPRESSION")) 9) (most (one-if (called "EXPRESSION")) 8) refl)
-    (k .items) Statement d in
+    let d : Clean (knownIn (under (bytes "STATEMENT")) [] (k .items)) = rw m at c in
+    let a = kept-inside (among "ACTIONS") refl (k .items) (bytes "STATEMENT") d in
+    let x = kept-inside (called "EXPRESSION") refl (k .items) (bytes "STATEMENT") d in
     let b = once-within k (bytes "EXPRESSION") l (rw m refl) (rw m refl) in
     let y = part-kept (is "EXPRESSION") (b .0 ∷ within (b .0)) (within k) (b .2) in
     let z : 1 ≤ length (kept (is "EXPRESSION") (b .0 ∷ within (b .0))) = rw (b .1) (omega arith) in

@@ -13,21 +13,17 @@ use Rattle.lists.proofs.Cases.{by-cases}
 use Rattle.text.proofs.Equal.{same-equal}
 use Rattle.records.specs.Records.{actionWord}
 use Rattle.shape.specs.Shape.{Node}
-use Rattle.schema.specs.declared.Kind.{Kind}
-use Rattle.schema.specs.declared.Kind.the-variants.{Statement}
-use Rattle.schema.specs.Schema.{parents, parentIn, elements, rulesIn, oneOf, under}
-use Rattle.schema.specs.SchemaCode as schema
-use Rattle.schema.proofs.Laws.{kind-back}
-use Rattle.file_rules.specs.Element.{Known, misfit, valueOf, textOf}
-use Rattle.element.specs.ElementCode.{firstNumber, shortText}
+use Rattle.schema.specs.Schema.{parents, parentIn, oneOf, under}
+use Rattle.schema.specs.SchemaCode.{attributes, kindOf}
+use Rattle.schema.proofs.Laws.{Listed}
+use Rattle.file_rules.specs.Element.{Known, valueOf, textOf}
+use Rattle.element.specs.ElementCode.{shortText}
 use Rattle.lists.proofs.Parts.{neither}
 use Rattle.element.proofs.Texts.{short-law}
-use Rattle.element.proofs.Laws.{clean-law}
 use Rattle.file_rules.specs.Reading.{is, actionOf}
-use Rattle.element.specs.ReadingCode as reading
-use Rattle.tables.proofs.Readings.{number-law}
+use Rattle.tables.proofs.Readings.{statement-ruled, number-is}
 use Rattle.file_rules.specs.Document.{knownElements}
-use Rattle.document.specs.DocumentCode.{entryOf}
+use Rattle.document.specs.EntriesCode.{entryOf, numberIn}
 use Rattle.document.proofs.Stood.{All}
 use Rattle.writer.specs.declared.Actions.{Actions}
 use Rattle.tables.specs.declared.rows.Draft.{Draft}
@@ -114,29 +110,22 @@ changes t o g =
     (λ e. rw e (o, no-rows g (t .rows) (t .count) (let h = leb-false 1 (t .count) e in omega (arith, h))))
 
 -- ---- an entry
+posted : Listed (bytes "posttrigger")
+unfolding attributes any same bytes
+posted = refl
+
 module _ (f : List ℕ) (k : Known) (fit : Fit f k) where
-  abbrev kind : Kind
-  kind = schema.kindAmong schema.kinds (k .name)
+  read-post : is "STATEMENT" k ≡ true → numberIn (entryOf k) "posttrigger" ≡ valueOf k "posttrigger"
+  read-post t = number-is f k fit (statement-ruled k t) "posttrigger" posted
 
-  fits : misfit k ≡ false
-  unfolding firstNumber
-  fits = clean-law k (ap firstNumber (fit .clean)) .fits
-
-  read-post : block (k .name) ≡ true → reading.slotValue kind 1 f (k .place) ≡ valueOf k "posttrigger"
-  unfolding reading.slotValue schema.kindName schema.isCarried bytes same rulesIn elements schema.askedOf schema.askedFrom
-  read-post b =
-      let e = same-equal (k .name) (schema.kindName Statement) b in
-      let u : kind ≡ Statement = ap (schema.kindAmong schema.kinds) e ∙ kind-back Statement refl in
-      rw u (number-law f k (fit .stood .depth) (fit .stood .behind) (fit .stood .element) fits Statement e "posttrigger" 1 refl refl)
-
-  read-action : actionFrom kind ≡ wordOf k
+  read-action : actionFrom (kindOf (k .name)) ≡ wordOf k
   unfolding actionOf
   read-action =
       rw (fit .named)
       (by-cases (is "ACTION_START_LOG" k) (λ t. rw t) (λ t. by-cases (is "ACTION_STOP_LOG" k) (λ u. rw (t, u)) (λ u. rw (t, u))))
 
   told-one : (t : Drafts) → Ok t → (block (k .name) ≡ true → length (view t) < 16)
-      → Ok (tellDraft f t (entryOf k)) × (view (tellDraft f t (entryOf k)) ≡ grouping block start drafting (view t) k)
+      → Ok (tellDraft t (entryOf k)) × (view (tellDraft t (entryOf k)) ≡ grouping block start drafting (view t) k)
   unfolding tellDraft grouping drafting
   told-one t o h =
       let n = fit .named in
@@ -264,13 +253,13 @@ root-outside = refl
 
 pub drafts-law : (f : List ℕ) (x : Node) → length f ≤ 32768 → All (Fit f) (knownElements x) → All Formed (knownElements x)
     → length (kept (is "STATEMENT") (knownElements x)) ≤ 16
-    → let t = folded (tellDraft f) noDrafts (map entryOf (knownElements x)) in
+    → let t = folded tellDraft noDrafts (map entryOf (knownElements x)) in
     Each (Drafted f) (take (t .count) (t .rows)) (kept (is "STATEMENT") (knownElements x))
 drafts-law f x room good formed few =
     let ks = knownElements x in
-    let t = folded (tellDraft f) noDrafts (map entryOf ks) in
+    let t = folded tellDraft noDrafts (map entryOf ks) in
     let e : view t ≡ map (draftOf f room) (kept (is "STATEMENT") ks) =
-    viewed block start drafting view (tellDraft f) Ok (Fit f) 16 (told-one f) ks good noDrafts (length-replicate 16 noDraft, omega arith)
+    viewed block start drafting view tellDraft Ok (Fit f) 16 (told-one f) ks good noDrafts (length-replicate 16 noDraft, omega arith)
     (omega (arith, few))
     ∙ grouped block start drafting inside blocks-inner blocks-outer drafting-still [] ks root-outside (nested-known x) [] in
     let p : Known → Type 0 = λ k. All (Fit f) (within k) × Formed k in

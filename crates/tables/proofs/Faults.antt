@@ -1,23 +1,18 @@
--- The faults 9 and 10 that are found over an index are those of the document.
+-- The faults 9 and 10 that are found over the entries are those of the document.
 use Prim.Native.Nat.{ℕ, zero, suc, _≤_}
 use mathlib.Core.Path.{_≡_, refl, sym, ap, _∙_}
 use mathlib.Core.List.{List, [], _∷_, _++_, map, append-nil}
-use mathlib.Core.Bool.{Bool, true, false, not, cond, _&&_, _||_, or-false, true≢false}
+use mathlib.Core.Bool.{Bool, true, false, not, cond, _&&_, _||_, or-false}
 use lib.Dec.{leb, eqb}
 use lib.ListN.{length, getD, length-map}
 use Rattle.text.specs.Texts.{bytes, same}
 use Rattle.lists.proofs.Cases.{by-cases}
-use Rattle.text.proofs.Equal.{same-equal}
-use Rattle.schema.specs.declared.Kind.the-variants.{MsgId, MsgDlc, ErrorFrame}
-use Rattle.schema.specs.Schema.{parents, parentIn, elements, rulesIn}
-use Rattle.schema.specs.SchemaCode.{kindName, kindAmong, askedFrom, askedOf}
+use Rattle.schema.specs.SchemaCode.{attributes, kindName, kindOf}
+use Rattle.schema.proofs.Laws.{Listed}
 use Rattle.file_rules.specs.Element.{Known, Fault, _at_if_, goodOf, channelOf, valueOf}
 use Rattle.element.specs.ElementCode as element
-use Rattle.element.proofs.Laws.{channel-law}
 use Rattle.file_rules.specs.Reading.{is}
-use Rattle.element.specs.ReadingCode as reading
-use Rattle.document.specs.declared.Entry.{Entry}
-use Rattle.document.specs.DocumentCode.{entryOf, indexOf}
+use Rattle.document.specs.EntriesCode.{Entry, entryOf, numberIn}
 use Rattle.document.proofs.Stood.{All}
 use Rattle.tables.specs.declared.rows.Head.{Head}
 use Rattle.tables.specs.RowsCode.{folded, noNames, tellName, told}
@@ -27,8 +22,9 @@ use Rattle.file_rules.specs.Tables.{kept, isIn, usedNames, gap, channelNamed, c
 use Rattle.tables.specs.TablesCode.{usedFrom, nameFault, firstWhere, busFault, isBeyond, channelFault, orElse, tableFault}
 use Rattle.file_rules.specs.RefusalCode.{refusedAt}
 use Rattle.tables.proofs.Wanted.{Fit, firstOf}
-use Rattle.tables.proofs.Entries.{entries-are, told-head, told-names}
-use Rattle.tables.proofs.Tells.{kindOf, value-as, names-law, places-law, HeadHold, head-law}
+use Rattle.tables.proofs.Entries.{told-head, told-names}
+use Rattle.tables.proofs.Readings.{trigger-ruled, number-is}
+use Rattle.tables.proofs.Tells.{names-law, places-law, HeadHold, head-law}
 use Rattle.lists.specs.Lists.{any, gathered}
 use Rattle.lists.specs.FlagsCode.{lacksFirst}
 
@@ -87,54 +83,44 @@ gap-law l cs h zero = refl
 gap-law l cs h (suc n) = lacks-last n l ∙ rw (h n, gap-law l cs h n)
 
 -- ---- the channel that an element names
-trigger-channel : (f : List ℕ) (k : Known) → Fit f k → isIn "TRIGGERS" k ≡ true → is "TRIGGER_STARTUP" k ≡ false
-    → reading.slotValue (kindOf k) 2 f (k .place) ≡ valueOf k "channel"
-unfolding parentIn parents any kindAmong rulesIn elements askedOf askedFrom kindName bytes same
-trigger-channel f k y t s =
-    by-cases (same (k .name) (bytes "TRIGGER_MSG_ID"))
-    (λ u. value-as f k y MsgId (same-equal (k .name) (bytes "TRIGGER_MSG_ID") u) refl "channel" 2 refl refl) (λ a.
-    by-cases (same (k .name) (bytes "TRIGGER_MSG_DLC"))
-    (λ u. value-as f k y MsgDlc (same-equal (k .name) (bytes "TRIGGER_MSG_DLC") u) refl "channel" 2 refl refl) (λ b.
-    by-cases (same (k .name) (bytes "TRIGGER_MSG_ERROR_FRAME"))
-    (λ u. value-as f k y ErrorFrame (same-equal (k .name) (bytes "TRIGGER_MSG_ERROR_FRAME") u) refl "channel" 2 refl refl) (λ c.
-    absurd (true≢false (sym (rw (a, b, c, s) at t))))))
+listed-channel : Listed (bytes "channel")
+unfolding attributes any same bytes
+listed-channel = refl
 
-module _ (f : List ℕ) (short : length f ≤ 32768) (n : ℕ) (k : Known) (y : Fit f k) where
-  beyond-trigger : cond (isIn "TRIGGERS" k && not (is "TRIGGER_STARTUP" k)) (leb n (reading.slotValue (kindOf k) 2 f (k .place))) false
+module _ (f : List ℕ) (n : ℕ) (k : Known) (y : Fit f k) where
+  beyond-trigger : cond (isIn "TRIGGERS" k && not (is "TRIGGER_STARTUP" k)) (leb n (numberIn (entryOf k) "channel")) false
       ≡ any (leb n) (cond (isIn "TRIGGERS" k && not (is "TRIGGER_STARTUP" k)) (valueOf k "channel" ∷ []) [])
   unfolding any
   beyond-trigger =
       by-cases (isIn "TRIGGERS" k)
       (λ t. by-cases (is "TRIGGER_STARTUP" k) (λ s. rw (t, s) refl)
-      (λ s. rw (t, s, trigger-channel f k y t s) (sym (or-false (leb n (valueOf k "channel"))))))
+      (λ s. rw (t, s, number-is f k y (trigger-ruled k t) "channel" listed-channel) (sym (or-false (leb n (valueOf k "channel"))))))
       (λ t. rw t refl)
 
-  beyond-law : isBeyond f n (entryOf k) ≡ any (leb n) (channelNamed k)
+  beyond-law : isBeyond n (entryOf k) ≡ any (leb n) (channelNamed k)
   unfolding isBeyond channelNamed any
   beyond-law =
       by-cases (is "CHANNEL" k)
-      (λ t.
-      let c = channel-law k f (y .stood .depth) (y .stood .behind) (y .stood .element) (y .stood .deep) short in
-      rw (y .named, t, c) (sym (or-false (leb n (goodOf (channelOf k))))))
+      (λ t. rw (y .named, t) (sym (or-false (leb n (goodOf (channelOf k))))))
       (λ t. rw (y .named, t) beyond-trigger)
 
 -- ---- all of them
 module _ (f : List ℕ) (ks : List Known) (y : All (Fit f) ks) where
   name-law : length (kept (isIn "TRIGGERS") ks) ≤ 32 → (rest : List Fault)
-      → firstOf (usedNames [] (kept (isIn "TRIGGERS") ks) ++ rest) ≡ orElse (nameFault f (told f (indexOf ks) .names)) (firstOf rest)
+      → firstOf (usedNames [] (kept (isIn "TRIGGERS") ks) ++ rest) ≡ orElse (nameFault f (told f (map entryOf ks) .names)) (firstOf rest)
   unfolding nameFault
   name-law h rest =
       let ms = kept (isIn "TRIGGERS") ks in
       let u : usedFrom [] (map Tables.nameOf ms) (map (λ k. k .place) ms)
       ≡ nameFault f (folded (tellName f) noNames (map entryOf ks)) = rw (names-law f ks y h, places-law f ks y h) refl in
-      used-law rest [] ms ∙ ap (λ (r : Refusal). orElse r (firstOf rest)) (u ∙ sym (ap (nameFault f) (told-names f ks)))
+      used-law rest [] ms ∙ ap (λ (r : Refusal). orElse r (firstOf rest)) (u ∙ sym (ap (nameFault f) (told-names f (map entryOf ks))))
 
   module _ (h : length (kept (is "PARAMETERS") ks) ≤ 5) where
     abbrev head : Head
-    head = told f (indexOf ks) .head
+    head = told f (map entryOf ks) .head
 
     held : HeadHold head ks
-    held = rw (told-head f ks) (head-law f ks y h)
+    held = rw (told-head f (map entryOf ks)) (head-law f ks y h)
 
     channels-are : head .channels ≡ length (channelsIn ks)
     channels-are = held .channels ∙ sym (length-map (kept (is "PARAMETERS") ks) (λ k. valueOf k "channel"))
@@ -146,37 +132,36 @@ module _ (f : List ℕ) (ks : List Known) (y : All (Fit f) ks) where
     bus-by true rest =
         rw (gathered-kept (is "CAN_BUS") ks)
         (first-law (λ e. element.isKind (e .kind) "CAN_BUS") (is "CAN_BUS") rest ks
-        (all-map (Fit f) (λ k. same (kindName (kindOf k)) (bytes "CAN_BUS") ≡ is "CAN_BUS" k)
+        (all-map (Fit f) (λ k. same (kindName (kindOf (k .name))) (bytes "CAN_BUS") ≡ is "CAN_BUS" k)
         (λ k z. ap (λ (n : List ℕ). same n (bytes "CAN_BUS")) (z .named)) ks y))
 
     bus-law : (rest : List Fault)
         → firstOf (gathered (λ k. 10 at k .place if gap (length (channelsIn ks)) (channelsIn ks)) (kept (is "CAN_BUS") ks) ++ rest)
-        ≡ orElse (busFault head (indexOf ks)) (firstOf rest)
+        ≡ orElse (busFault head (map entryOf ks)) (firstOf rest)
     unfolding busFault
     bus-law rest =
         let g : lacksFirst (head .channels) (head .present)
         ≡ gap (length (channelsIn ks)) (channelsIn ks) = ap (λ (n : ℕ). lacksFirst n (head .present)) channels-are
         ∙ gap-law (head .present) (channelsIn ks) (held .present) (length (channelsIn ks)) in
-        rw (g, entries-are ks) (bus-by (gap (length (channelsIn ks)) (channelsIn ks)) rest)
+        rw g (bus-by (gap (length (channelsIn ks)) (channelsIn ks)) rest)
 
-    channels-law : length f ≤ 32768
-        → firstOf (gathered (λ k. 10 at k .place if any (leb (length (channelsIn ks))) (channelNamed k)) ks)
-        ≡ channelFault f head (indexOf ks)
+    channels-law : firstOf (gathered (λ k. 10 at k .place if any (leb (length (channelsIn ks))) (channelNamed k)) ks)
+        ≡ channelFault head (map entryOf ks)
     unfolding channelFault
-    channels-law short =
+    channels-law =
         let n = length (channelsIn ks) in
         let b : Known → Bool = λ k. any (leb n) (channelNamed k) in
-        rw (channels-are, entries-are ks)
+        rw channels-are
         (ap firstOf (sym (append-nil (gathered (λ k. 10 at k .place if b k) ks)))
-        ∙ (first-law (isBeyond f n) b [] ks (all-map (Fit f) (λ k. isBeyond f n (entryOf k) ≡ b k) (λ k z. beyond-law f short n k z) ks y)
-        ∙ or-none (isBeyond f n) (map entryOf ks)))
+        ∙ (first-law (isBeyond n) b [] ks (all-map (Fit f) (λ k. isBeyond n (entryOf k) ≡ b k) (λ k z. beyond-law f n k z) ks y)
+        ∙ or-none (isBeyond n) (map entryOf ks)))
 
-pub fault-law : (f : List ℕ) (ks : List Known) → length f ≤ 32768 → All (Fit f) ks → length (kept (isIn "TRIGGERS") ks) ≤ 32
-    → length (kept (is "PARAMETERS") ks) ≤ 5 → tableFault f (indexOf ks) (told f (indexOf ks)) ≡ firstOf (tableFaults ks)
+pub fault-law : (f : List ℕ) (ks : List Known) → All (Fit f) ks → length (kept (isIn "TRIGGERS") ks) ≤ 32
+    → length (kept (is "PARAMETERS") ks) ≤ 5 → tableFault f (map entryOf ks) (told f (map entryOf ks)) ≡ firstOf (tableFaults ks)
 unfolding tableFault tableFaults
-fault-law f ks short y t h =
+fault-law f ks y t h =
     let bs = gathered (λ k. 10 at k .place if gap (length (channelsIn ks)) (channelsIn ks)) (kept (is "CAN_BUS") ks) in
     let cs = gathered (λ k. 10 at k .place if any (leb (length (channelsIn ks))) (channelNamed k)) ks in
     sym
-    (name-law f ks y t (bs ++ cs) ∙ ap (orElse (nameFault f (told f (indexOf ks) .names)))
-    (bus-law f ks y h cs ∙ ap (orElse (busFault (told f (indexOf ks) .head) (indexOf ks))) (channels-law f ks y h short)))
+    (name-law f ks y t (bs ++ cs) ∙ ap (orElse (nameFault f (told f (map entryOf ks) .names)))
+    (bus-law f ks y h cs ∙ ap (orElse (busFault (told f (map entryOf ks) .head) (map entryOf ks))) (channels-law f ks y h)))

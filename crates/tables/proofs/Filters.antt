@@ -3,31 +3,23 @@ use Prim.Native.Nat.{ℕ, zero, suc, _+_, _-_, _^_, _≤_, _<_}
 use native.Mathlib.Omega.{arith}
 use mathlib.Core.Path.{_≡_, refl, sym, ap, _∙_}
 use mathlib.Core.List.{List, [], _∷_, _++_, map, foldl, append-assoc, append-nil}
-use mathlib.Core.Bool.{Bool, true, false, cond, not, _&&_, _||_, Bool·beq, true≢false}
+use mathlib.Core.Bool.{Bool, true, false, cond, not, _&&_, _||_, Bool·beq}
 use lib.Dec.{leb, eqb}
 use lib.ListN.{length, take, getD, length-set, length-replicate}
 use lib.Seq.{length-take-le}
 use borrow.Author.Tests.{leb-true, leb-false, eqb-true, le-leb, lt-ltb}
 use Rattle.text.specs.Texts.{bytes, same}
 use Rattle.lists.proofs.Cases.{by-cases}
-use Rattle.text.proofs.Equal.{same-equal}
 use Rattle.records.specs.declared.Filter.{Filter}
 use Rattle.values.specs.Values.{worthOf}
 use Rattle.values.specs.NumbersCode.{numberSpelt}
 use Rattle.shape.specs.Shape.{Node}
-use Rattle.schema.specs.declared.Kind.{Kind}
-use Rattle.schema.specs.declared.Kind.the-variants.{MessagePass, MessageStop}
 use Rattle.schema.specs.Schema.{parents, parentIn, oneOf, under}
-use Rattle.schema.specs.SchemaCode as schema
-use Rattle.schema.proofs.Laws.{kind-back}
-use Rattle.file_rules.specs.Element.{Known, goodOf, channelOf, misfit}
-use Rattle.element.specs.ElementCode.{gatheredAt, firstNumber}
-use Rattle.element.proofs.Laws.{clean-law, channel-law}
+use Rattle.file_rules.specs.Element.{Known, goodOf, channelOf}
 use Rattle.file_rules.specs.Reading.{is, filterOf}
-use Rattle.element.specs.ReadingCode.{filterFrom}
-use Rattle.tables.proofs.Readings.{ranged-top, pass-law, stop-law}
+use Rattle.tables.proofs.Readings.{ranged-top, filter-is}
 use Rattle.file_rules.specs.Document.{knownElements}
-use Rattle.document.specs.DocumentCode.{entryOf}
+use Rattle.document.specs.EntriesCode.{entryOf}
 use Rattle.document.proofs.Stood.{All}
 use Rattle.writer.specs.declared.Filters.{Filters}
 use Rattle.tables.specs.RowsCode.{folded, withChannel, masked, noFilter, noFilters, pushFilter, addChannel, tellFilter}
@@ -171,65 +163,33 @@ adds t o c =
     ))
     (λ e. rw e (o, no-rows (λ x. masked x c) (t .rows) (t .count) (let h = leb-false 1 (t .count) e in omega (arith, h))))
 
-second : (a b : Bool) → (a || (b || false)) ≡ true → a ≡ false → b ≡ true
-second true b e h = absurd (true≢false h)
-second false true e h = refl
-second false false e h = absurd (true≢false (sym e))
-
 -- ---- an entry
-module _ (f : List ℕ) (room : length f ≤ 32768) where
-  module _ (k : Known) (fit : Fit f k) where
-    abbrev kind : Kind
-    kind = schema.kindAmong schema.kinds (k .name)
-
-    fits : misfit k ≡ false
-    unfolding firstNumber
-    fits = clean-law k (ap firstNumber (fit .clean)) .fits
-
-    -- what is read of a filter
-    read-as : (m : Kind) → schema.isCarried m ≡ true → same (k .name) (schema.kindName m) ≡ true
-        → (k .name ≡ schema.kindName m → filterFrom 0 m (gatheredAt m f (k .place)) ≡ start k)
-        → filterFrom 0 kind (gatheredAt kind f (k .place)) ≡ start k
-    read-as m c t h =
-        let e = same-equal (k .name) (schema.kindName m) t in
-        let u : kind ≡ m = ap (schema.kindAmong schema.kinds) e ∙ kind-back m c in
-        rw u (h e)
-
-    read-filter : block (k .name) ≡ true → filterFrom 0 kind (gatheredAt kind f (k .place)) ≡ start k
-    unfolding parentIn parents any bytes same schema.kindName schema.isCarried
-    read-filter b =
-        let y = fit .stood .element in
-        by-cases (same (k .name) (schema.kindName MessagePass))
-        (λ t. read-as MessagePass refl t (pass-law f k (fit .stood .depth) (fit .stood .behind) y fits 0))
-        (λ t. read-as MessageStop refl (second (same (k .name) (schema.kindName MessagePass)) (same (k .name) (schema.kindName MessageStop))
-        b t) (stop-law f k (fit .stood .depth) (fit .stood .behind) y fits 0))
-
-    told-one : (t : Filters) → Ok t → (block (k .name) ≡ true → length (view t) < 32)
-        → Ok (tellFilter f t (entryOf k)) × (view (tellFilter f t (entryOf k)) ≡ grouping block start adding (view t) k)
-    unfolding tellFilter grouping
-    told-one t o h =
-        let n = fit .named in
-        by-cases (block (k .name))
-        (λ b.
-        let l : length (view t) < 32 = h b in
-        let m = length-take-le (t .count) (t .rows) (rw (o .0) (o .1)) in
-        rw (n, b, read-filter b) (pushes t o (start k) (omega (arith, l, m))))
-        (λ b. by-cases (same (k .name) (bytes "CHANNEL"))
-        (λ c. rw (n, b, c, channel-law k f (fit .stood .depth) (fit .stood .behind) (fit .stood .element) (fit .stood .deep) room)
-        (adds t o (goodOf (channelOf k))))
-        (λ c. rw (n, b, c) (o, sym (changed-still (λ x. x) (λ x. refl) (view t)))))
+module _ (f : List ℕ) (k : Known) (fit : Fit f k) where
+  told-one : (t : Filters) → Ok t → (block (k .name) ≡ true → length (view t) < 32)
+      → Ok (tellFilter t (entryOf k)) × (view (tellFilter t (entryOf k)) ≡ grouping block start adding (view t) k)
+  unfolding tellFilter grouping
+  told-one t o h =
+      let n = fit .named in
+      by-cases (block (k .name))
+      (λ b.
+      let l : length (view t) < 32 = h b in
+      let m = length-take-le (t .count) (t .rows) (rw (o .0) (o .1)) in
+      rw (filter-is f k fit b 0, n, b) (pushes t o (start k) (omega (arith, l, m))))
+      (λ b. by-cases (same (k .name) (bytes "CHANNEL"))
+      (λ c. rw (n, b, c) (adds t o (goodOf (channelOf k))))
+      (λ c. rw (n, b, c) (o, sym (changed-still (λ x. x) (λ x. refl) (view t)))))
 
 -- ---- all entries
 root-outside : inside [] ≡ false
 unfolding parentIn parents any bytes same
 root-outside = refl
 
-pub filters-law : (f : List ℕ) (x : Node) → length f ≤ 32768 → All (Fit f) (knownElements x)
+pub filters-law : (f : List ℕ) (x : Node) → All (Fit f) (knownElements x)
     → length (kept (isIn "FILTERS") (knownElements x)) ≤ 32
-    → let t = folded (tellFilter f) noFilters (map entryOf (knownElements x)) in take (t .count) (t .rows)
+    → let t = folded tellFilter noFilters (map entryOf (knownElements x)) in take (t .count) (t .rows)
     ≡ map (λ k. filterOf (sumFrom 5 (channelsOf k)) k) (kept (isIn "FILTERS") (knownElements x))
-filters-law f x room good few =
-    viewed block start adding view (tellFilter f) Ok (Fit f) 32 (told-one f room) (knownElements x) good noFilters
+filters-law f x good few =
+    viewed block start adding view tellFilter Ok (Fit f) 32 (told-one f) (knownElements x) good noFilters
     (length-replicate 32 noFilter, omega arith) (omega (arith, few))
     ∙ (grouped block start adding inside blocks-inner blocks-outer adding-still [] (knownElements x) root-outside (nested-known x) []
     ∙ map-kept (λ k. foldl adding (start k) (within k)) (λ k. filterOf (sumFrom 5 (channelsOf k)) k) (isIn "FILTERS") filled

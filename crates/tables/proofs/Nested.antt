@@ -14,9 +14,8 @@ use Rattle.text.proofs.Equal.{same-equal}
 use Rattle.shape.specs.Shape.{Node, node, Items}
 use Rattle.schema.specs.Schema.{Parent, parents, parentIn, oneOf, under}
 use Rattle.file_rules.specs.Element.{Known}
-use Rattle.document.specs.declared.Entry.{Entry}
 use Rattle.file_rules.specs.Document.{alsoNamed, knownIn, knownAt, knownElements}
-use Rattle.document.specs.DocumentCode.{entryOf}
+use Rattle.document.specs.EntriesCode.{Entry, entryOf}
 use Rattle.document.proofs.Stood.{All, all-append}
 use Rattle.tables.specs.RowsCode.{folded}
 use Rattle.file_rules.specs.Tables.{kept, within}

@@ -1,35 +1,40 @@
--- What the answers are for an element of a well-shaped file whose attributes fit.
-use Prim.Native.Nat.{ℕ, suc, _≤_, _<_}
+-- What a trigger or a filter without faults says, from the numbers of its entry.
+use Prim.Native.Nat.{ℕ, suc, _+_, _≤_, _<_}
 use Prim.Native.String.{String}
 use native.Mathlib.Omega.{arith}
-use mathlib.Core.Path.{_≡_, refl}
+use native.Mathlib.Nat.{mod-add-div'}
+use mathlib.Core.Path.{_≡_, refl, ap, _∙_}
 use mathlib.Core.List.{List, []}
-use mathlib.Core.Bool.{true, false, cond, _&&_}
-use lib.Dec.{leb, ltb}
-use lib.ListN.{getD}
+use mathlib.Core.Bool.{true, cond, _&&_}
+use lib.Dec.{leb}
 use borrow.Author.Tests.{leb-true, ne-eqb}
+use Rattle.lists.specs.Lists.{any}
+use Rattle.lists.specs.BitsCode.{hasBit}
 use Rattle.lists.proofs.Cases.{by-cases}
+use Rattle.lists.proofs.Parts.{and-right}
 use Rattle.text.specs.Texts.{bytes, same}
+use Rattle.text.proofs.Equal.{same-equal}
 use Rattle.values.specs.declared.Number.{Number}
 use Rattle.values.specs.declared.Number.the-variants.{Value, Nothing}
+use Rattle.values.specs.declared.Sort.{Sort}
 use Rattle.values.specs.declared.Sort.the-variants.{Timeout}
 use Rattle.values.specs.Values.{ranged, worthOf}
 use Rattle.values.specs.NumbersCode.{numberSpelt, digits}
 use Rattle.records.specs.declared.Timeout.the-variants.{Forever, Ms}
 use Rattle.records.specs.RecordsCode.{timeoutAt}
-use Rattle.shape.specs.Shape.{node}
-use Rattle.walk.specs.StandsCode.{ElementAt}
-use Rattle.schema.specs.declared.Kind.{Kind}
-use Rattle.schema.specs.declared.Kind.the-variants.{MsgId, MsgDlc, ErrorFrame, Startup, MessagePass, MessageStop}
-use Rattle.schema.specs.Schema.{elements, rulesIn}
-use Rattle.schema.specs.SchemaCode.{kindName, askedFrom, askedOf}
-use Rattle.file_rules.specs.Element.{Known, worthBy, goodOf, givenValue, misfit, valueOf, has}
-use Rattle.element.specs.ElementCode.{nothingGathered, gatheredList, gatheredAt}
-use Rattle.lists.proofs.Parts.{and-right}
+use Rattle.schema.specs.Schema.{oneOf, parents, parentIn, under, elements, rulesIn, rulesOf}
+use Rattle.schema.specs.SchemaCode.{attributes, attributeOf, knows, isRuled, sortIn, allRules, sortOf}
+use Rattle.schema.proofs.Laws.{named, Listed, one-sort}
+use Rattle.file_rules.specs.Element.{Known, worthBy, goodOf, givenValue, valueOf, has}
+use Rattle.file_rules.specs.Reading.{is, triggerOf, filterOf}
+use Rattle.file_rules.specs.Tables.{isIn}
+use Rattle.element.specs.ElementCode.{numberOf, flagOf, firstNumber}
+use Rattle.element.proofs.Judged.{worth-by}
 use Rattle.element.proofs.Gathers.{spelled-none}
-use Rattle.element.proofs.Laws.{gather-law, value-law, has-law}
-use Rattle.file_rules.specs.Reading.{triggerOf, filterOf}
-use Rattle.element.specs.ReadingCode.{triggerFrom, filterFrom}
+use Rattle.element.proofs.Laws.{Clean, clean-law, value-law, has-law}
+use Rattle.document.specs.EntriesCode.{gatheredOf, entryOf, flagIn, numberIn}
+use Rattle.tables.specs.RowsCode.{causeFrom, triggerFrom, filterFrom}
+use Rattle.tables.proofs.Wanted.{Fit}
 
 -- no value is above its range
 pub ranged-top : (lo hi most : ℕ) (n : Number) → goodOf (ranged lo hi most n) ≤ hi
@@ -50,107 +55,131 @@ timeout-worth s =
     let h : v < 4294967295 = omega (arith, ranged-top 0 1000000000 1000000000 (numberSpelt s)) in
     rw (t, ne-eqb v 4294967295 (λ e. absurd (omega (arith, h, e)))))
 
+-- a value in an element that knows its attribute is worth what the attribute asks for
+worth-known : (m n v : List ℕ) → knows (rulesOf m) n ≡ true → worthBy (rulesOf m) (record { name = n; value = v }) ≡ worthOf (sortOf n) v
+worth-known m n v k = worth-by (rulesOf m) n v ∙ ap (λ (s : Sort). worthOf s v) (one-sort m n k)
+
+-- the attributes of triggers and filters that are read
+pub read : Listed (bytes "timeout")
+    × Listed (bytes "channel")
+    × Listed (bytes "msgid")
+    × Listed (bytes "msgid_min")
+    × Listed (bytes "can_ext")
+    × Listed (bytes "dlc")
+    × Listed (bytes "dlc_min")
+unfolding attributes any same bytes
+read = (refl, refl, refl, refl, refl, refl, refl)
+
+lasting : sortOf (bytes "timeout") ≡ Timeout
+unfolding elements sortIn allRules sortOf same bytes
+lasting = refl
+
+triggers-last : (n : List ℕ) → oneOf (under (bytes "TRIGGERS") .carried) n ≡ true → knows (rulesOf n) (bytes "timeout") ≡ true
+unfolding parents parentIn elements rulesIn knows any same bytes
+triggers-last n = named (λ m. knows (rulesOf m) (bytes "timeout")) (λ m. true) n (under (bytes "TRIGGERS") .carried) refl
+
+filters-short : (n : List ℕ) → oneOf (under (bytes "FILTERS") .carried) n ≡ true → knows (rulesOf n) (bytes "dlc_min") ≡ true
+unfolding parents parentIn elements rulesIn knows any same bytes
+filters-short n = named (λ m. knows (rulesOf m) (bytes "dlc_min")) (λ m. true) n (under (bytes "FILTERS") .carried) refl
+
+no-length : 0 ≡ goodOf (worthOf (sortOf (bytes "dlc_min")) [])
+unfolding elements sortIn allRules sortOf worthOf numberSpelt digits same bytes
+no-length = refl
+
+-- those that may have attributes
+triggers-ruled : (n : List ℕ) → oneOf (under (bytes "TRIGGERS") .carried) n ≡ true → isRuled n ≡ true
+unfolding parents parentIn elements rulesIn isRuled any same bytes
+triggers-ruled n = named isRuled (λ m. true) n (under (bytes "TRIGGERS") .carried) refl
+
+filters-ruled : (n : List ℕ) → oneOf (under (bytes "FILTERS") .carried) n ≡ true → isRuled n ≡ true
+unfolding parents parentIn elements rulesIn isRuled any same bytes
+filters-ruled n = named isRuled (λ m. true) n (under (bytes "FILTERS") .carried) refl
+
+others : (isRuled (bytes "STATEMENT") ≡ true) × (isRuled (bytes "PARAMETERS") ≡ true) × (isRuled (bytes "MODE") ≡ true)
+unfolding elements rulesIn isRuled any same bytes
+others = (refl, refl, refl)
+
+one-ruled : (x : String) (k : Known) → isRuled (bytes x) ≡ true → is x k ≡ true → isRuled (k .name) ≡ true
+one-ruled x k r t = ap isRuled (same-equal (k .name) (bytes x) t) ∙ r
+
 module _ (k : Known) where
-  abbrev timeoutGiven : List ℕ
-  timeoutGiven = givenValue (bytes "timeout") (k .attributes)
+  pub trigger-ruled : isIn "TRIGGERS" k ≡ true → isRuled (k .name) ≡ true
+  trigger-ruled t = triggers-ruled (k .name) t
 
-  abbrev Lasts : Type 0
-  Lasts = timeoutAt (valueOf k "timeout") ≡ cond (same timeoutGiven (bytes "-1")) Forever (Ms (valueOf k "timeout"))
+  pub statement-ruled : is "STATEMENT" k ≡ true → isRuled (k .name) ≡ true
+  statement-ruled t = one-ruled "STATEMENT" k (others .0) t
 
-  lasts : (kind : Kind) → k .name ≡ kindName kind
-      → worthBy (rulesIn elements (kindName kind)) (record { name = bytes "timeout"; value = timeoutGiven }) ≡ worthOf Timeout timeoutGiven
-      → Lasts
-  lasts kind m e = rw (m, e) (timeout-worth timeoutGiven)
+  pub parameters-ruled : is "PARAMETERS" k ≡ true → isRuled (k .name) ≡ true
+  parameters-ruled t = one-ruled "PARAMETERS" k (others .1) t
+
+  pub mode-ruled : is "MODE" k ≡ true → isRuled (k .name) ≡ true
+  mode-ruled t = one-ruled "MODE" k (others .2) t
+
+  lasts : isIn "TRIGGERS" k ≡ true
+      → timeoutAt (valueOf k "timeout")
+      ≡ cond (same (givenValue (bytes "timeout") (k .attributes)) (bytes "-1")) Forever (Ms (valueOf k "timeout"))
+  lasts t =
+      let v = givenValue (bytes "timeout") (k .attributes) in
+      rw (worth-known (k .name) (bytes "timeout") v (triggers-last (k .name) t), lasting) (timeout-worth v)
 
   -- a filter without dlc
-  abbrev Shortest : Type 0
-  Shortest = cond (has k "dlc_min") (valueOf k "dlc_min") 0 ≡ valueOf k "dlc_min"
+  shortest : isIn "FILTERS" k ≡ true → cond (has k "dlc_min") (valueOf k "dlc_min") 0 ≡ valueOf k "dlc_min"
+  shortest t =
+      by-cases (has k "dlc_min") (λ u. rw u)
+      (λ u. rw (u, spelled-none (bytes "dlc_min") (k .attributes) u, worth-known (k .name) (bytes "dlc_min") [] (filters-short (k .name) t))
+      no-length)
 
-  shortest : (kind : Kind) → k .name ≡ kindName kind
-      → goodOf (worthBy (rulesIn elements (kindName kind)) (record { name = bytes "dlc_min"; value = [] })) ≡ 0 → Shortest
-  shortest kind m e = by-cases (has k "dlc_min") (λ t. rw t) (λ t. rw (t, m, spelled-none (bytes "dlc_min") (k .attributes) t, e))
+  -- what stands in the entry's row
+  module _ (r : isRuled (k .name) ≡ true) where
+    row-number : (n : String) → numberIn (entryOf k) n ≡ numberOf (gatheredOf k .values) n
+    row-number n =
+        let a = attributeOf (bytes n) in
+        let q : a + 2 ≡ suc (suc a) = omega arith in
+        rw (r, q)
 
-module _ (f : List ℕ) (k : Known) (d e : ℕ) (y : ElementAt f (suc d) (k .place) (node (k .place) (k .name) (k .attributes) (k .items)) e)
-    (fits : misfit k ≡ false) where
-  gathered-is : (kind : Kind) → gatheredAt kind f (k .place) ≡ gatheredList kind (k .attributes) nothingGathered
-  gathered-is kind = gather-law f d (k .place) (k .place) (k .name) (k .attributes) (k .items) e y kind
+    row-flag : (n : String) → flagIn (entryOf k) n ≡ flagOf (gatheredOf k .has) n
+    row-flag n = rw r (ap (λ (h : ℕ). hasBit h (attributeOf (bytes n))) (mod-add-div' (gatheredOf k .has) 4294967296))
 
-  -- the attribute n, which is the rule s
-  module _ (kind : Kind) (named : k .name ≡ kindName kind) (n : String) (s : ℕ) (r : askedOf kind (bytes n) .slot ≡ s) (t : ltb s 12 ≡ true)
-    where
-      pub number-law : getD (gatheredAt kind f (k .place) .values) s 0 ≡ valueOf k n
-      number-law = rw (gathered-is kind) (value-law k kind named fits n s r t)
+-- ---- an element without faults, from its entry
+module _ (f : List ℕ) (k : Known) (y : Fit f k) where
+  pub clean : Clean k
+  unfolding firstNumber
+  clean = clean-law k (ap firstNumber (y .clean))
 
-      pub given-law : getD (gatheredAt kind f (k .place) .has) s false ≡ has k n
-      given-law = rw (gathered-is kind) (has-law k kind named fits n s r t)
+  module _ (r : isRuled (k .name) ≡ true) (n : String) (l : Listed (bytes n)) where
+    pub number-is : numberIn (entryOf k) n ≡ valueOf k n
+    number-is = row-number k r n ∙ value-law k (clean .fits) n l
 
-  -- triggers
-  pub id-law : k .name ≡ kindName MsgId → triggerFrom MsgId (gatheredAt MsgId f (k .place)) ≡ triggerOf k
-  unfolding triggerFrom triggerOf kindName bytes same rulesIn elements worthBy askedOf askedFrom
-  id-law m =
+    pub flag-is : flagIn (entryOf k) n ≡ has k n
+    flag-is = row-flag k r n ∙ has-law k (clean .fits) n l
+
+  pub trigger-is : isIn "TRIGGERS" k ≡ true → triggerFrom (entryOf k) ≡ triggerOf k
+  unfolding triggerFrom causeFrom triggerOf
+  trigger-is t =
+      let r = triggers-ruled (k .name) t in
       rw (
-        number-law MsgId m "timeout" 1 refl refl,
-        lasts k MsgId m refl,
-        number-law MsgId m "channel" 2 refl refl,
-        number-law MsgId m "msgid" 3 refl refl,
-        number-law MsgId m "msgid_min" 4 refl refl,
-        number-law MsgId m "can_ext" 5 refl refl,
-        m,
+        y .named,
+        number-is r "timeout" (read .0),
+        lasts k t,
+        number-is r "channel" (read .1),
+        number-is r "msgid" (read .2),
+        number-is r "msgid_min" (read .3),
+        number-is r "can_ext" (read .4),
+        number-is r "dlc" (read .5),
+        number-is r "dlc_min" (read .6),
       )
 
-  pub length-law : k .name ≡ kindName MsgDlc → triggerFrom MsgDlc (gatheredAt MsgDlc f (k .place)) ≡ triggerOf k
-  unfolding triggerFrom triggerOf kindName bytes same rulesIn elements worthBy askedOf askedFrom
-  length-law m =
+  pub filter-is : isIn "FILTERS" k ≡ true → (channels : ℕ) → filterFrom channels (entryOf k) ≡ filterOf channels k
+  unfolding filterFrom filterOf
+  filter-is t channels =
+      let r = filters-ruled (k .name) t in
       rw (
-        number-law MsgDlc m "timeout" 1 refl refl,
-        lasts k MsgDlc m refl,
-        number-law MsgDlc m "channel" 2 refl refl,
-        number-law MsgDlc m "dlc" 3 refl refl,
-        number-law MsgDlc m "dlc_min" 4 refl refl,
-        m,
+        y .named,
+        flag-is r "dlc" (read .5),
+        number-is r "msgid" (read .2),
+        number-is r "msgid_min" (read .3),
+        number-is r "can_ext" (read .4),
+        number-is r "dlc" (read .5),
+        number-is r "dlc_min" (read .6),
+        shortest k t,
       )
-
-  pub error-law : k .name ≡ kindName ErrorFrame → triggerFrom ErrorFrame (gatheredAt ErrorFrame f (k .place)) ≡ triggerOf k
-  unfolding triggerFrom triggerOf kindName bytes same rulesIn elements worthBy askedOf askedFrom
-  error-law m =
-      rw (number-law ErrorFrame m "timeout" 1 refl refl, lasts k ErrorFrame m refl, number-law ErrorFrame m "channel" 2 refl refl, m)
-
-  pub startup-law : k .name ≡ kindName Startup → triggerFrom Startup (gatheredAt Startup f (k .place)) ≡ triggerOf k
-  unfolding triggerFrom triggerOf kindName bytes same rulesIn elements worthBy askedOf askedFrom
-  startup-law m = rw (number-law Startup m "timeout" 1 refl refl, lasts k Startup m refl, m)
-
-  -- filters
-  module _ (channels : ℕ) where
-    pub pass-law : k .name ≡ kindName MessagePass
-        → filterFrom channels MessagePass (gatheredAt MessagePass f (k .place)) ≡ filterOf channels k
-    unfolding filterFrom filterOf kindName bytes same rulesIn elements worthBy worthOf numberSpelt digits askedOf askedFrom
-    pass-law m =
-        rw (
-          number-law MessagePass m "msgid" 0 refl refl,
-          number-law MessagePass m "msgid_min" 1 refl refl,
-          number-law MessagePass m
-              "can_ext" 2 refl refl,
-          given-law MessagePass m "dlc" 6 refl refl,
-          number-law MessagePass m "dlc" 6 refl refl,
-          number-law
-              MessagePass m "dlc_min" 7 refl refl,
-          shortest k MessagePass m refl,
-          m,
-        )
-
-    pub stop-law : k .name ≡ kindName MessageStop
-        → filterFrom channels MessageStop (gatheredAt MessageStop f (k .place)) ≡ filterOf channels k
-    unfolding filterFrom filterOf kindName bytes same rulesIn elements worthBy worthOf numberSpelt digits askedOf askedFrom
-    stop-law m =
-        rw (
-          number-law MessageStop m "msgid" 0 refl refl,
-          number-law MessageStop m "msgid_min" 1 refl refl,
-          number-law MessageStop m
-              "can_ext" 2 refl refl,
-          given-law MessageStop m "dlc" 6 refl refl,
-          number-law MessageStop m "dlc" 6 refl refl,
-          number-law
-              MessageStop m "dlc_min" 7 refl refl,
-          shortest k MessageStop m refl,
-          m,
-        )

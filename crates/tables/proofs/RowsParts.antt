@@ -1,20 +1,19 @@
--- What is told of an index is what each table's own fold over the entries gives.
+-- What is told of entries is what each table's own fold over the entries gives.
 use Prim.Native.Nat.{ℕ}
 use mathlib.Core.Path.{_≡_, refl}
 use mathlib.Core.List.{List, [], _∷_}
-use Rattle.document.specs.declared.Entry.{Entry}
-use Rattle.document.specs.declared.Index.{Index}
+use Rattle.document.specs.EntriesCode.{Entry}
 use Rattle.tables.specs.declared.rows.Told.{Told}
-use Rattle.tables.specs.RowsCode.{folded, entriesOf, nothingTold, tellHead, tellTrigger, tellName, tellFilter, tellDraft, tellEntry, told}
+use Rattle.tables.specs.RowsCode.{folded, nothingTold, tellHead, tellTrigger, tellName, tellFilter, tellDraft, tellEntry, told}
 
 module _ (f : List ℕ) where
   abbrev pub parts : Told → List Entry → Told
   parts t es = record {
-    head = folded (tellHead f) (t .head) es;
-    triggers = folded (tellTrigger f) (t .triggers) es;
+    head = folded tellHead (t .head) es;
+    triggers = folded tellTrigger (t .triggers) es;
     names = folded (tellName f) (t .names) es;
-    filters = folded (tellFilter f) (t .filters) es;
-    drafts = folded (tellDraft f) (t .drafts) es;
+    filters = folded tellFilter (t .filters) es;
+    drafts = folded tellDraft (t .drafts) es;
   }
 
   folded-parts : (t : Told) (es : List Entry) → folded (tellEntry f) t es ≡ parts t es
@@ -22,6 +21,6 @@ module _ (f : List ℕ) where
   folded-parts t [] = refl
   folded-parts t (e ∷ es) = folded-parts (tellEntry f t e) es
 
-  pub told-parts : (x : Index) → told f x ≡ parts nothingTold (entriesOf x)
+  pub told-parts : (es : List Entry) → told f es ≡ parts nothingTold es
   unfolding told
-  told-parts x = folded-parts nothingTold (entriesOf x)
+  told-parts es = folded-parts nothingTold es

@@ -1,11 +1,10 @@
 -- What is told of the known elements of a document: its triggers, their names, and the head.
 use Prim.Native.Nat.{ℕ, _+_, _≤_, _<_}
-use Prim.Native.String.{String}
 use native.Mathlib.Omega.{arith}
 use mathlib.Core.Path.{_≡_, refl, sym, ap, _∙_}
 use mathlib.Core.List.{List, [], _∷_, _++_, map, map-append, append-assoc, append-nil}
 use mathlib.Core.Bool.{Bool, true, false, not, cond, _&&_, _||_, or-true, or-false, true≢false}
-use lib.Dec.{ltb, eqb}
+use lib.Dec.{eqb}
 use lib.ListN.{length, take, set, getD, replicate, length-map, length-append, length-set, getD-replicate, List·getD-eq-default}
 use lib.Seq.{slice, take-all, getD-set-same, getD-set-other}
 use borrow.Author.Tests.{lt-ltb, eqb-true, eqb-false, not-false}
@@ -16,27 +15,23 @@ use Rattle.values.specs.Values.{worthOf}
 use Rattle.values.specs.NumbersCode.{numberSpelt}
 use Rattle.shape.specs.Shape.{Attribute}
 use Rattle.walk.specs.declared.Part.{Part}
-use Rattle.schema.specs.declared.Kind.{Kind}
-use Rattle.schema.specs.declared.Kind.the-variants.{Mode, Parameters, MsgId, MsgDlc, ErrorFrame, Startup}
-use Rattle.schema.specs.Schema.{Rule, _to_, parents, parentIn, elements, rulesIn, rulesOf}
-use Rattle.schema.specs.SchemaCode.{kindName, kinds, kindAmong, askedFrom, askedOf}
-use Rattle.schema.proofs.Every.{everywhere}
+use Rattle.schema.specs.Schema.{Rule, _to_, oneOf, parents, parentIn, under, elements, rulesIn, rulesOf}
+use Rattle.schema.specs.SchemaCode.{attributes}
+use Rattle.schema.proofs.Laws.{named, Listed}
 use Rattle.file_rules.specs.Element.{Known, worthBy, goodOf, givenValue, given, has, repeated, misfit, valueOf}
-use Rattle.element.specs.ElementCode.{gatheredAt, firstNumber, valueAt}
+use Rattle.element.specs.ElementCode.{valueAt}
 use Rattle.lists.proofs.Parts.{neither}
-use Rattle.element.proofs.Laws.{Clean, clean-law, spelled-law}
+use Rattle.element.proofs.Laws.{spelled-law}
 use Rattle.grammar.specs.TokensCode.{spans, namesIn}
 use Rattle.file_rules.specs.Reading.{is, triggerOf}
-use Rattle.element.specs.ReadingCode as reading
-use Rattle.tables.proofs.Readings.{ranged-top, number-law, id-law, length-law, error-law, startup-law}
-use Rattle.document.specs.declared.Entry.{Entry}
-use Rattle.document.specs.DocumentCode.{entryOf}
+use Rattle.tables.proofs.Readings.{ranged-top, parameters-ruled, mode-ruled, clean, number-is, trigger-is}
+use Rattle.document.specs.EntriesCode.{Entry, entryOf, numberIn}
 use Rattle.document.proofs.Absorbs.{any-append}
 use Rattle.document.proofs.Stood.{All}
 use Rattle.writer.specs.declared.Triggers.{Triggers}
 use Rattle.tables.specs.declared.rows.Names.{Names}
 use Rattle.tables.specs.declared.rows.Head.{Head}
-use Rattle.tables.specs.RowsCode.{noHead, tellHead, folded, isUnder, noTrigger, noTriggers, pushTrigger, tellTrigger, noNames, pushName, tellName}
+use Rattle.tables.specs.RowsCode.{noHead, tellHead, folded, noTrigger, noTriggers, pushTrigger, tellTrigger, noNames, pushName, tellName}
 use Rattle.file_rules.specs.Tables as Tables
 use Rattle.file_rules.specs.Tables.{kept, isIn, channelsIn}
 use Rattle.tables.specs.TablesCode.{namesAt}
@@ -76,43 +71,12 @@ module _ {S : Type 0} (step : S → Entry → S) (f : List ℕ) (p : Known → B
   fold-holds = fold-from []
 
 -- ---- triggers
-abbrev pub kindOf : Known → Kind
-kindOf k = kindAmong kinds (k .name)
-
-module _ (f : List ℕ) (k : Known) (y : Fit f k) where
-  clean : Clean k
-  unfolding firstNumber
-  clean = clean-law k (ap firstNumber (y .clean))
-
-  trigger-as : (kind : Kind) → k .name ≡ kindName kind → kindAmong kinds (kindName kind) ≡ kind
-      → reading.triggerFrom kind (gatheredAt kind f (k .place)) ≡ triggerOf k
-      → reading.triggerFrom (kindOf k) (gatheredAt (kindOf k) f (k .place)) ≡ triggerOf k
-  trigger-as kind m b e = ap (λ (q : Kind). reading.triggerFrom q (gatheredAt q f (k .place))) (ap (kindAmong kinds) m ∙ b) ∙ e
-
-  trigger-is : isIn "TRIGGERS" k ≡ true → reading.triggerFrom (kindOf k) (gatheredAt (kindOf k) f (k .place)) ≡ triggerOf k
-  unfolding parentIn parents any kindAmong kindName bytes same
-  trigger-is t =
-      let d = y .stood .depth in
-      let e = y .stood .behind in
-      let z = y .stood .element in
-      let w = clean .fits in
-      by-cases (same (k .name) (bytes "TRIGGER_MSG_ID"))
-      (λ u. let m = same-equal (k .name) (bytes "TRIGGER_MSG_ID") u in trigger-as MsgId m refl (id-law f k d e z w m)) (λ a.
-      by-cases (same (k .name) (bytes "TRIGGER_MSG_DLC"))
-      (λ u. let m = same-equal (k .name) (bytes "TRIGGER_MSG_DLC") u in trigger-as MsgDlc m refl (length-law f k d e z w m)) (λ b.
-      by-cases (same (k .name) (bytes "TRIGGER_MSG_ERROR_FRAME"))
-      (λ u. let m = same-equal (k .name) (bytes "TRIGGER_MSG_ERROR_FRAME") u in trigger-as ErrorFrame m refl (error-law f k d e z w m))
-      (λ c.
-      by-cases (same (k .name) (bytes "TRIGGER_STARTUP"))
-      (λ u. let m = same-equal (k .name) (bytes "TRIGGER_STARTUP") u in trigger-as Startup m refl (startup-law f k d e z w m)) (λ u.
-      absurd (true≢false (sym (rw (a, b, c, u) at t)))))))
-
 module _ (f : List ℕ) where
   abbrev TriggersHold : Triggers → List Known → Type 0
   TriggersHold t ds = Filled (map triggerOf (kept (isIn "TRIGGERS") ds)) (replicate 32 noTrigger) (t .rows) (t .count)
 
   trigger-turn : (t : Triggers) (ds : List Known) (k : Known) → Fit f k → length (kept (isIn "TRIGGERS") (ds ++ (k ∷ []))) ≤ 32
-      → TriggersHold t ds → TriggersHold (tellTrigger f t (entryOf k)) (ds ++ (k ∷ []))
+      → TriggersHold t ds → TriggersHold (tellTrigger t (entryOf k)) (ds ++ (k ∷ []))
   unfolding tellTrigger pushTrigger
   trigger-turn t ds k y h z =
       by-cases (isIn "TRIGGERS" k)
@@ -121,16 +85,16 @@ module _ (f : List ℕ) where
       let e = kept-in (isIn "TRIGGERS") ds k u in
       let n : length (ms ++ (k ∷ [])) ≤ 32 = rw e at h in
       let c : t .count < 32 = omega (arith, n, length-append ms (k ∷ []), filled-count z, length-map ms triggerOf) in
-      rw (y .named, u, lt-ltb (t .count) 32 c, trigger-is f k y u, e, map-append triggerOf ms (k ∷ []))
+      rw (trigger-is f k y u, y .named, u, lt-ltb (t .count) 32 c, e, map-append triggerOf ms (k ∷ []))
       (filled-one (map triggerOf ms) (replicate 32 noTrigger) (t .rows) (t .count) (t .count + 1) (triggerOf k) z c refl))
       (λ u. rw (y .named, u, kept-out (isIn "TRIGGERS") ds k u) z)
 
   pub triggers-law : (ks : List Known) → All (Fit f) ks → length (kept (isIn "TRIGGERS") ks) ≤ 32
-      → take (folded (tellTrigger f) noTriggers (map entryOf ks) .count) (folded (tellTrigger f) noTriggers (map entryOf ks) .rows)
+      → take (folded tellTrigger noTriggers (map entryOf ks) .count) (folded tellTrigger noTriggers (map entryOf ks) .rows)
       ≡ map triggerOf (kept (isIn "TRIGGERS") ks)
   unfolding kept
   triggers-law ks y h =
-      fold-holds (tellTrigger f) f (isIn "TRIGGERS") 32 TriggersHold trigger-turn ks noTriggers y h
+      fold-holds tellTrigger f (isIn "TRIGGERS") 32 TriggersHold trigger-turn ks noTriggers y h
       (filled-none (replicate 32 noTrigger)) .words
 
 -- ---- names
@@ -160,12 +124,9 @@ fits-given k n m d =
     let b = neither (u || w) x (a .0) in
     demanded-given (rulesOf (k .name)) n (k .attributes) ((neither u w (b .0)) .1) d
 
-triggers-named : (q : Kind) → cond (isUnder "TRIGGERS" q) (demanded (rulesOf (kindName q)) (bytes "name")) true ≡ true
-unfolding demanded parentIn parents rulesIn elements any kindName bytes same
-triggers-named = everywhere (λ q. cond (isUnder "TRIGGERS" q) (demanded (rulesOf (kindName q)) (bytes "name")) true) (λ q. true) refl
-
-name-demanded : (k : Known) → kindName (kindOf k) ≡ k .name → isIn "TRIGGERS" k ≡ true → demanded (rulesOf (k .name)) (bytes "name") ≡ true
-name-demanded k m t = rw (m, t) at (triggers-named (kindOf k))
+name-demanded : (n : List ℕ) → oneOf (under (bytes "TRIGGERS") .carried) n ≡ true → demanded (rulesOf n) (bytes "name") ≡ true
+unfolding demanded parentIn parents rulesIn elements any bytes same
+name-demanded n = named (λ m. demanded (rulesOf m) (bytes "name")) (λ m. true) n (under (bytes "TRIGGERS") .carried) refl
 
 kept-all : (P : Known → Type 0) (p : Known → Bool) (ks : List Known) → All P ks → All (λ k. P k × (p k ≡ true)) (kept p ks)
 unfolding kept
@@ -219,7 +180,7 @@ module _ (f : List ℕ) where
   name-is k y t =
       spelled-law f (y .stood .depth) (k .place) (k .place) (k .name) (k .attributes) (k .items) (y .stood .behind) (y .stood .element)
       (bytes "name")
-      (fits-given k (bytes "name") (clean f k y .fits) (name-demanded k (y .named) t))
+      (fits-given k (bytes "name") (clean f k y .fits) (name-demanded (k .name) t))
 
   spans-are : (ms : List Known) → All (λ k. Fit f k × (isIn "TRIGGERS" k ≡ true)) ms
       → spans f (map (λ k. nameAt k .from) ms) (map (λ k. nameAt k .to) ms) ≡ map Tables.nameOf ms
@@ -247,25 +208,14 @@ pub low-worth : (s : List ℕ) → goodOf (worthOf (0 to 4) s) ≤ 4
 unfolding worthOf
 low-worth s = ranged-top 0 4 4 (numberSpelt s)
 
-channel-low : (k : Known) → k .name ≡ kindName Parameters → valueOf k "channel" ≤ 4
-unfolding worthBy rulesIn elements kindName bytes same
+channel-low : (k : Known) → k .name ≡ bytes "PARAMETERS" → valueOf k "channel" ≤ 4
+unfolding worthBy rulesIn elements bytes same
 channel-low k m = rw m (low-worth (givenValue (bytes "channel") (k .attributes)))
 
-module _ (f : List ℕ) (k : Known) (y : Fit f k) where
-  pub value-as : (kind : Kind) → k .name ≡ kindName kind → kindAmong kinds (kindName kind) ≡ kind → (n : String) (s : ℕ)
-      → askedOf kind (bytes n) .slot ≡ s → ltb s 12 ≡ true → reading.slotValue (kindOf k) s f (k .place) ≡ valueOf k n
-  unfolding reading.slotValue
-  value-as kind m b n s r t =
-      ap (λ (q : Kind). getD (gatheredAt q f (k .place) .values) s 0) (ap (kindAmong kinds) m ∙ b)
-      ∙ number-law f k (y .stood .depth) (y .stood .behind) (y .stood .element) (clean f k y .fits) kind m n s r t
-
-  channel-is : k .name ≡ kindName Parameters → reading.slotValue (kindOf k) 0 f (k .place) ≡ valueOf k "channel"
-  unfolding kindAmong rulesIn elements askedOf askedFrom kindName bytes same
-  channel-is m = value-as Parameters m refl "channel" 0 refl refl
-
-  all-is : k .name ≡ kindName Mode → reading.slotValue (kindOf k) 0 f (k .place) ≡ valueOf k "log_all"
-  unfolding kindAmong rulesIn elements askedOf askedFrom kindName bytes same
-  all-is m = value-as Mode m refl "log_all" 0 refl refl
+-- the attributes that are read
+heading : Listed (bytes "channel") × Listed (bytes "log_all")
+unfolding attributes any same bytes
+heading = (refl, refl)
 
 set-present : (l : List Bool) (v c : ℕ) (cs : List ℕ) → v < length l → getD l c false ≡ any (eqb c) cs
     → getD (set l v true) c false ≡ any (eqb c) (cs ++ (v ∷ []))
@@ -288,32 +238,31 @@ pub record HeadHold (h : Head) (ds : List Known) : Type 0 where
 module _ (f : List ℕ) where
   module _ (h : Head) (ds : List Known) (k : Known) (y : Fit f k) (z : HeadHold h ds) where
     head-bus : is "PARAMETERS" k ≡ true → length (kept (is "PARAMETERS") (ds ++ (k ∷ []))) ≤ 5
-        → HeadHold (tellHead f h (entryOf k)) (ds ++ (k ∷ []))
-    unfolding tellHead kindName bytes same
+        → HeadHold (tellHead h (entryOf k)) (ds ++ (k ∷ []))
+    unfolding tellHead bytes same
     head-bus t n =
-        let m : k .name ≡ kindName Parameters = same-equal (k .name) (bytes "PARAMETERS") t in
+        let m = same-equal (k .name) (bytes "PARAMETERS") t in
         let ms = kept (is "PARAMETERS") ds in
         let e = kept-in (is "PARAMETERS") ds k t in
         let w : length (kept (is "PARAMETERS") (ds ++ (k ∷ []))) ≡ length ms + 1 = ap length e ∙ length-append ms (k ∷ []) in
         let c : h .channels < 5 = omega (arith, n, w, z .channels) in
-        let v : reading.slotValue (kindOf k) 0 f (k .place) ≡ valueOf k "channel" = channel-is f k y m in
+        let v = number-is f k y (parameters-ruled k t) "channel" (heading .0) in
         rw (y .named, t, lt-ltb (h .channels) 5 c)
         (record {
           channels = ap (λ (i : ℕ). i + 1) (z .channels) ∙ sym w;
           all = rw (kept-out (is "MODE") ds k (rw m refl)) (z .all);
-          wide = length-set (h .present) (reading.slotValue (kindOf k) 0 f (k .place)) true ∙ z .wide;
+          wide = length-set (h .present) (numberIn (entryOf k) "channel") true ∙ z .wide;
           present = λ i.
               rw (v, e, map-append (λ j. valueOf j "channel") ms (k ∷ []))
               (set-present (h .present) (valueOf k "channel") i (channelsIn ds) (omega (arith, channel-low k m, z .wide)) (z .present i));
         })
 
-    head-mode : is "PARAMETERS" k ≡ false → is "MODE" k ≡ true → HeadHold (tellHead f h (entryOf k)) (ds ++ (k ∷ []))
-    unfolding tellHead any kindName bytes
+    head-mode : is "PARAMETERS" k ≡ false → is "MODE" k ≡ true → HeadHold (tellHead h (entryOf k)) (ds ++ (k ∷ []))
+    unfolding tellHead any
     head-mode t u =
-        let m : k .name ≡ kindName Mode = same-equal (k .name) (bytes "MODE") u in
         let ms = kept (is "MODE") ds in
         let e = kept-out (is "PARAMETERS") ds k t in
-        let v : reading.slotValue (kindOf k) 0 f (k .place) ≡ valueOf k "log_all" = all-is f k y m in
+        let v = number-is f k y (mode-ruled k u) "log_all" (heading .1) in
         rw (y .named, t, u)
         (record {
           channels = rw e (z .channels);
@@ -325,7 +274,7 @@ module _ (f : List ℕ) where
           present = λ i. rw e (z .present i);
         })
 
-    head-other : is "PARAMETERS" k ≡ false → is "MODE" k ≡ false → HeadHold (tellHead f h (entryOf k)) (ds ++ (k ∷ []))
+    head-other : is "PARAMETERS" k ≡ false → is "MODE" k ≡ false → HeadHold (tellHead h (entryOf k)) (ds ++ (k ∷ []))
     unfolding tellHead
     head-other t u =
         let e = kept-out (is "PARAMETERS") ds k t in
@@ -339,7 +288,7 @@ module _ (f : List ℕ) where
         })
 
   head-turn : (h : Head) (ds : List Known) (k : Known) → Fit f k → length (kept (is "PARAMETERS") (ds ++ (k ∷ []))) ≤ 5 → HeadHold h ds
-      → HeadHold (tellHead f h (entryOf k)) (ds ++ (k ∷ []))
+      → HeadHold (tellHead h (entryOf k)) (ds ++ (k ∷ []))
   head-turn h ds k y n z =
       by-cases (is "PARAMETERS" k) (λ t. head-bus h ds k y z t n)
       (λ t. by-cases (is "MODE" k) (head-mode h ds k y z t) (head-other h ds k y z t))
@@ -348,8 +297,8 @@ module _ (f : List ℕ) where
   none-present c = le-or-lt 5 c (λ h. List·getD-eq-default (replicate 5 false) false h) (λ h. getD-replicate 5 c false false h)
 
   pub head-law : (ks : List Known) → All (Fit f) ks → length (kept (is "PARAMETERS") ks) ≤ 5
-      → HeadHold (folded (tellHead f) noHead (map entryOf ks)) ks
+      → HeadHold (folded tellHead noHead (map entryOf ks)) ks
   unfolding kept any
   head-law ks y h =
-      fold-holds (tellHead f) f (is "PARAMETERS") 5 HeadHold head-turn ks noHead y h
+      fold-holds tellHead f (is "PARAMETERS") 5 HeadHold head-turn ks noHead y h
       (record { channels = refl; all = refl; wide = refl; present = none-present })

@@ -1,26 +1,25 @@
--- The loops: over names, each compared with those before it, and over the entries of an index.
+-- The loops: over names, each compared with those before it, and over entries.
 use Prim.Native.Nat.{ℕ, zero, suc, _+_, _≤_, _<_}
 use native.Mathlib.Omega.{arith}
 use native.Mathlib.Numerals.{add-one}
 use mathlib.Core.Path.{_≡_, refl, sym, ap, _∙_}
 use mathlib.Core.List.{List, [], _∷_, _++_}
 use mathlib.Core.Bool.{Bool, true, false}
-use lib.ListN.{length, getD, take, drop, length-take, drop-of-length-le}
-use lib.Seq.{drop-cons, take-all, length-take-le, getD-take}
+use lib.ListN.{length, getD, take, drop, drop-of-length-le}
+use lib.Seq.{take-all}
 use borrow.Author.Tests.{eq-eqb, ne-eqb}
 use Rattle.text.specs.Texts.{same}
 use Rattle.text.proofs.Spans.{drop-one}
 use Rattle.grammar.specs.TokensCode.{spans, namesIn}
 use Rattle.writer.proofs.Writes.{cut-is}
-use Rattle.document.specs.declared.Entry.{Entry}
-use Rattle.document.specs.declared.Index.{Index}
-use Rattle.document.specs.DocumentCode.{Indexes}
+use Rattle.document.specs.EntriesCode.{Entry, entriesIn}
 use Rattle.tables.specs.declared.rows.Names.{Names}
 use Rattle.tables.specs.declared.rows.Told.{Told}
-use Rattle.tables.specs.RowsCode.{told}
+use Rattle.tables.specs.RowsCode.{entryAt, told}
 use Rattle.file_rules.specs.declared.Refusal.{Refusal}
-use Rattle.tables.specs.TablesCode.{usedFrom, nameFault, firstWhere, orElse, tableFault, tabled, Tabled}
+use Rattle.tables.specs.TablesCode.{usedFrom, nameFault, firstWhere, orElse, tableFault, tabled}
 use Rattle.file_rules.specs.RefusalCode.{refusedAt}
+use Rattle.tables.proofs.RowsTurns.{Next, entries-next, entries-over}
 use Rattle.lists.specs.Lists.{any}
 
 -- ---- names
@@ -111,36 +110,25 @@ names-counted f n m a b d h =
           (omega (arith, few-spans f ss es, a, h)),
     )
 
--- ---- entries: i of n are passed
-pub record Looking (p : Entry → Bool) (es : List Entry) (n i : ℕ) : Type 0 where
-  pub there : n ≤ length es
-  pub on : firstWhere p (drop i (take n es)) ≡ firstWhere p (take n es)
+-- ---- entries: those before an offset are passed
+module _ (p : Entry → Bool) (ws : List ℕ) where
+  abbrev pub Looking : ℕ → Type 0
+  Looking at = firstWhere p (entriesIn (drop at ws)) ≡ firstWhere p (entriesIn ws)
 
-pub looking-first : (p : Entry → Bool) (es : List Entry) (count n : ℕ) → n ≡ length (take count es) → Looking p es n 0
-looking-first p es count n e = record { there = omega (arith, length-take count es, e); on = refl }
+  module _ (at : ℕ) (x : Looking at) where
+    module _ (r : Bool) (t : r ≡ p (entryAt ws at)) where
+      pub looking-hit : (place : ℕ) → at < length ws → r ≡ true → place ≡ entryAt ws at .place
+          → refusedAt 10 place ≡ firstWhere p (entriesIn ws)
+      unfolding firstWhere
+      looking-hit place h e q = rw q (sym (sym x ∙ rw (entries-next ws at _ h refl, sym t ∙ e)))
 
-module _ (p : Entry → Bool) (es : List Entry) (count n i : ℕ) (q : n ≡ length (take count es)) (x : Looking p es n i) where
-  whole : firstWhere p (drop i (take n es)) ≡ firstWhere p (take count es)
-  whole = x .on ∙ ap (firstWhere p) (cut-is es count n q)
+      pub looking-on : (n : ℕ) → at < length ws → r ≡ false → Next ws at n → Looking n
+      unfolding firstWhere
+      looking-on n h e q = sym (rw (entries-next ws at n h q, sym t ∙ e)) ∙ x
 
-  here : (z : Entry) → i < n → drop i (take n es) ≡ getD es i z ∷ drop (i + 1) (take n es)
-  here z h =
-      let e : drop i (take n es) ≡ getD (take n es) i z
-      ∷ drop (suc i) (take n es) = drop-cons (take n es) i z (omega (arith, length-take-le n es (x .there))) in
-      rw (add-one i, ← getD-take n es i z h) e
-
-  module _ (r : Bool) (z : Entry) (t : r ≡ p (getD es i z)) where
-    pub looking-hit : i < n → r ≡ true → refusedAt 10 (getD es i z .place) ≡ firstWhere p (take count es)
+    pub looking-none : length ws ≤ at → refusedAt 0 0 ≡ firstWhere p (entriesIn ws)
     unfolding firstWhere
-    looking-hit h e = sym (sym whole ∙ rw (here z h, sym t ∙ e))
-
-    pub looking-on : i < n → r ≡ false → Looking p es n (i + 1)
-    unfolding firstWhere
-    looking-on h e = record { there = x .there; on = sym (rw (here z h, sym t ∙ e)) ∙ x .on }
-
-  pub looking-none : n ≤ i → refusedAt 0 0 ≡ firstWhere p (take count es)
-  unfolding firstWhere
-  looking-none h = sym (sym whole ∙ rw (drop-of-length-le (take n es) {i = i} (omega (arith, length-take-le n es (x .there)))))
+    looking-none h = sym (sym x ∙ rw (entries-over ws at h))
 
 -- ---- the first of two refusals; r is what a callee answered
 pub or-first : (r a b : Refusal) → r ≡ a → (r .number ≡ 0 → ⊥) → r ≡ orElse a b
@@ -149,14 +137,13 @@ or-first r a b e h = rw (← e, ne-eqb (r .number) 0 h)
 pub or-second : (r a b : Refusal) → r ≡ a → r .number ≡ 0 → b ≡ orElse a b
 or-second r a b e h = rw (← e, eq-eqb (r .number) 0 h)
 
--- ---- the tables of a file, by its index x and what that tells
-module _ (f : List ℕ) (x : Index) (t : Told) where
-  pub tabled-refused : Indexes f x → t ≡ told f x → (x .fault .number ≡ 0 → ⊥)
-      → Tabled f (record { fault = x .fault; told = t })
+-- ---- the tables of a file, by its first refusal of 1 to 8 and its entries
+module _ (f : List ℕ) (earlier : Refusal) (es : List Entry) (t : Told) where
+  pub tabled-refused : t ≡ told f es → (earlier .number ≡ 0 → ⊥) → record { fault = earlier; told = t } ≡ tabled f earlier es
   unfolding tabled
-  tabled-refused i e h = record { index = x; indexes = i; same-tables = rw (e, ne-eqb (x .fault .number) 0 h) }
+  tabled-refused e h = rw (e, ne-eqb (earlier .number) 0 h)
 
-  pub tabled-judged : (r : Refusal) → Indexes f x → t ≡ told f x → x .fault .number ≡ 0 → r ≡ tableFault f x t
-      → Tabled f (record { fault = r; told = t })
+  pub tabled-judged : (r : Refusal) → t ≡ told f es → earlier .number ≡ 0 → r ≡ tableFault f es t
+      → record { fault = r; told = t } ≡ tabled f earlier es
   unfolding tabled
-  tabled-judged r i e h q = record { index = x; indexes = i; same-tables = rw (q, e, eq-eqb (x .fault .number) 0 h) }
+  tabled-judged r e h q = rw (q, e, eq-eqb (earlier .number) 0 h)

@@ -1,4 +1,4 @@
--- What the fold over an index has to give for a document without faults, part by part. The laws beside say that it does.
+-- What the fold over entries has to give for a document without faults, part by part. The laws beside say that it does.
 use Prim.Native.Nat.{ℕ, _≤_}
 use mathlib.Core.Path.{_≡_}
 use mathlib.Core.List.{List, [], _∷_, map}
@@ -6,12 +6,12 @@ use mathlib.Core.Bool.{true}
 use lib.ListN.{length, take}
 use Rattle.shape.specs.Shape.{Node}
 use Rattle.records.specs.Records.{actionWord, sumFrom}
-use Rattle.schema.specs.SchemaCode as schema
+use Rattle.schema.specs.SchemaCode.{kindName, kindOf}
 use Rattle.file_rules.specs.Element.{Known, Fault, ownFaults, valueOf, textOf}
 use Rattle.element.specs.ElementCode.{shortText}
 use Rattle.file_rules.specs.Reading.{is, triggerOf, filterOf, actionOf}
 use Rattle.file_rules.specs.Document.{knownElements}
-use Rattle.document.specs.DocumentCode.{indexOf}
+use Rattle.document.specs.EntriesCode.{entryOf}
 use Rattle.document.proofs.Stood.{Stood}
 use Rattle.tables.specs.declared.rows.Draft.{Draft}
 use Rattle.tables.specs.declared.rows.Told.{Told}
@@ -22,7 +22,7 @@ use Rattle.file_rules.specs.RefusalCode.{refusedAt}
 
 -- a known element without faults, which stands in the file and has the name of a kind
 pub record Fit (f : List ℕ) (k : Known) : Type 0 where
-  pub named : schema.kindName (schema.kindAmong schema.kinds (k .name)) ≡ k .name
+  pub named : kindName (kindOf (k .name)) ≡ k .name
   pub stood : Stood f k
   pub clean : ownFaults k ≡ []
 
@@ -57,5 +57,5 @@ pub record Reads (f : List ℕ) (x : Node) (t : Told) : Type 0 where
   pub filters : take (t .filters .count) (t .filters .rows)
       ≡ map (λ k. filterOf (sumFrom 5 (channelsOf k)) k) (kept (isIn "FILTERS") (knownElements x))
   pub drafts : Each (Drafted f) (take (t .drafts .count) (t .drafts .rows)) (kept (is "STATEMENT") (knownElements x))
-  pub fault : tableFault f (indexOf (knownElements x)) t ≡ firstOf (tableFaults (knownElements x))
+  pub fault : tableFault f (map entryOf (knownElements x)) t ≡ firstOf (tableFaults (knownElements x))
   pub few-statements : length (kept (is "STATEMENT") (knownElements x)) ≤ 16

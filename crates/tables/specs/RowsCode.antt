@@ -1,27 +1,26 @@
--- What the functions answer, for every input: one entry of an index after the other says what it says. Code-shaped; proofs/Laws.antt ties
--- it
--- to the definitions. Nothing here has to be believed.
+-- What the functions answer, for every input: one entry after the other says what it says. Code-shaped; proofs/Laws.antt ties it to the
+-- definitions. Nothing here has to be believed.
 use Prim.Native.Nat.{ℕ, _+_, _-_, _/_, _%_, _^_}
 use Prim.Native.String.{String}
 use mathlib.Core.List.{List, [], _∷_}
 use mathlib.Core.Bool.{Bool, true, false, cond, _&&_, _||_}
 use lib.Dec.{leb, ltb, eqb}
-use lib.ListN.{getD, set, take, replicate}
+use lib.ListN.{getD, set, drop, replicate}
 use Rattle.text.specs.Texts.{bytes}
-use Rattle.records.specs.declared.Cause.the-variants.{Startup}
+use Rattle.records.specs.declared.Cause.{Cause}
+use Rattle.records.specs.declared.Cause.the-variants.{Id, Length, Error, Startup}
 use Rattle.records.specs.declared.Timeout.the-variants.{Forever}
 use Rattle.records.specs.declared.Trigger.{Trigger}
-use Rattle.records.specs.declared.Effect.the-variants.{Pass}
+use Rattle.records.specs.declared.Effect.{Effect}
+use Rattle.records.specs.declared.Effect.the-variants.{Pass, Stop}
 use Rattle.records.specs.declared.Filter.{Filter}
+use Rattle.records.specs.Records.{dlcTop}
+use Rattle.records.specs.RecordsCode.{timeoutAt}
 use Rattle.walk.specs.declared.Part.{Part}
-use Rattle.schema.specs.declared.Kind.{Kind}
 use Rattle.schema.specs.Schema.{oneOf, under}
 use Rattle.schema.specs.SchemaCode.{kindName}
-use Rattle.file_rules.specs.Element.{goodOf}
-use Rattle.element.specs.ElementCode.{isKind, gatheredAt, numbered, valueAt}
-use Rattle.document.specs.declared.Entry.{Entry}
-use Rattle.document.specs.declared.Index.{Index}
-use Rattle.element.specs.ReadingCode as reading
+use Rattle.element.specs.ElementCode.{isKind, valueAt}
+use Rattle.document.specs.EntriesCode.{Entry, flagIn, numberIn, entryFrom}
 use Rattle.writer.specs.declared.Triggers.{Triggers}
 use Rattle.writer.specs.declared.Filters.{Filters}
 use Rattle.writer.specs.declared.Actions.{Actions}
@@ -35,11 +34,12 @@ unfoldable pub folded : {A : Type 0} → (A → Entry → A) → A → List Entr
 folded step a [] = a
 folded step a (e ∷ es) = folded step (step a e) es
 
-abbrev pub entriesOf : Index → List Entry
-entriesOf x = take (x .count) (x .entries)
+-- the entry at an offset
+abbrev pub entryAt : List ℕ → ℕ → Entry
+entryAt ws at = entryFrom (drop at ws)
 
 -- a kind that the parent n carries
-abbrev pub isUnder : String → Kind → Bool
+abbrev pub isUnder : String → ℕ → Bool
 isUnder n kind = oneOf (under (bytes n) .carried) (kindName kind)
 
 -- ---- triggers and their names
@@ -52,9 +52,19 @@ noTriggers = record { rows = replicate 32 noTrigger; count = 0 }
 unfoldable pub pushTrigger : Triggers → Trigger → Triggers
 pushTrigger t x = cond (ltb (t .count) 32) (record { rows = set (t .rows) (t .count) x; count = t .count + 1 }) t
 
-unfoldable pub tellTrigger : List ℕ → Triggers → Entry → Triggers
-tellTrigger f t e =
-    cond (isUnder "TRIGGERS" (e .kind)) (pushTrigger t (reading.triggerFrom (e .kind) (gatheredAt (e .kind) f (e .place)))) t
+-- the trigger that an entry says
+unfoldable pub causeFrom : Entry → Cause
+causeFrom e =
+    cond (isKind (e .kind) "TRIGGER_MSG_ID")
+    (Id (numberIn e "channel") (eqb (numberIn e "can_ext") 1) (numberIn e "msgid_min") (numberIn e "msgid"))
+    (cond (isKind (e .kind) "TRIGGER_MSG_DLC") (Length (numberIn e "channel") (numberIn e "dlc_min") (numberIn e "dlc"))
+    (cond (isKind (e .kind) "TRIGGER_MSG_ERROR_FRAME") (Error (numberIn e "channel")) Startup))
+
+unfoldable pub triggerFrom : Entry → Trigger
+triggerFrom e = record { cause = causeFrom e; timeout = timeoutAt (numberIn e "timeout") }
+
+unfoldable pub tellTrigger : Triggers → Entry → Triggers
+tellTrigger t e = cond (isUnder "TRIGGERS" (e .kind)) (pushTrigger t (triggerFrom e)) t
 
 abbrev pub noNames : Names
 noNames = record { starts = replicate 32 0; ends = replicate 32 0; places = replicate 32 0; count = 0 }
@@ -103,10 +113,25 @@ addChannel t c =
     cond (leb 1 (t .count) && leb (t .count) 32)
     (record { rows = set (t .rows) (t .count - 1) (masked (getD (t .rows) (t .count - 1) noFilter) c); count = t .count }) t
 
-unfoldable pub tellFilter : List ℕ → Filters → Entry → Filters
-tellFilter f t e =
-    cond (isUnder "FILTERS" (e .kind)) (pushFilter t (reading.filterFrom 0 (e .kind) (gatheredAt (e .kind) f (e .place))))
-    (cond (isKind (e .kind) "CHANNEL") (addChannel t (goodOf (numbered f (e .place)))) t)
+-- the filter that an entry says, with these channels
+abbrev pub effectOf : ℕ → Effect
+effectOf kind = cond (isKind kind "MESSAGE_PASS") Pass Stop
+
+unfoldable pub filterFrom : ℕ → Entry → Filter
+filterFrom channels e = record {
+  effect = effectOf (e .kind);
+  mask = channels;
+  ext = eqb (numberIn e "can_ext") 1;
+  lower = numberIn e "msgid_min";
+  upper = numberIn e "msgid";
+  shortest = numberIn e "dlc_min";
+  longest = cond (flagIn e "dlc") (numberIn e "dlc") dlcTop;
+}
+
+unfoldable pub tellFilter : Filters → Entry → Filters
+tellFilter t e =
+    cond (isUnder "FILTERS" (e .kind)) (pushFilter t (filterFrom 0 e))
+    (cond (isKind (e .kind) "CHANNEL") (addChannel t (e .number)) t)
 
 -- ---- statements; EXPRESSION and actions belong to the STATEMENT before them
 abbrev pub noActions : Actions
@@ -141,16 +166,19 @@ withText p d = record { post = d .post; actions = d .actions; text = p }
 abbrev pub withAction : ℕ → Draft → Draft
 withAction w d = record { post = d .post; actions = pushAction (d .actions) w; text = d .text }
 
-abbrev pub actionFrom : Kind → ℕ
+abbrev pub actionFrom : ℕ → ℕ
 actionFrom kind = cond (isKind kind "ACTION_START_LOG") 1 (cond (isKind kind "ACTION_STOP_LOG") 2 3)
 
 -- what an element within a STATEMENT, EXPRESSION or an action, changes in it
-unfoldable pub withPart : Kind → ℕ → Draft → Draft
+unfoldable pub withPart : ℕ → ℕ → Draft → Draft
 withPart kind place d = cond (isKind kind "EXPRESSION") (withText place d) (withAction (actionFrom kind) d)
 
-unfoldable pub tellDraft : List ℕ → Drafts → Entry → Drafts
-tellDraft f t e =
-    cond (isKind (e .kind) "STATEMENT") (pushDraft t (reading.slotValue (e .kind) 1 f (e .place)))
+abbrev pub isPart : ℕ → Bool
+isPart kind = isKind kind "EXPRESSION" || isUnder "ACTIONS" kind
+
+unfoldable pub tellDraft : Drafts → Entry → Drafts
+tellDraft t e =
+    cond (isKind (e .kind) "STATEMENT") (pushDraft t (numberIn e "posttrigger"))
     (cond (isKind (e .kind) "EXPRESSION") (changeLast (withText (e .place)) t)
     (cond (isUnder "ACTIONS" (e .kind)) (changeLast (withAction (actionFrom (e .kind))) t) t))
 
@@ -158,19 +186,19 @@ tellDraft f t e =
 abbrev pub noHead : Head
 noHead = record { channels = 0; present = replicate 5 false; all = false }
 
-unfoldable pub tellHead : List ℕ → Head → Entry → Head
-tellHead f h e =
+unfoldable pub tellHead : Head → Entry → Head
+tellHead h e =
     cond (isKind (e .kind) "PARAMETERS")
     (record {
       channels = cond (ltb (h .channels) 5) (h .channels + 1) (h .channels);
-      present = set (h .present) (reading.slotValue (e .kind) 0 f (e .place)) true;
+      present = set (h .present) (numberIn e "channel") true;
       all = h .all;
     })
     (cond (isKind (e .kind) "MODE") (record {
       channels = h .channels;
       present = h .present;
       all = h .all
-          || eqb (reading.slotValue (e .kind) 0 f (e .place)) 1;
+          || eqb (numberIn e "log_all") 1;
     }) h)
 
 -- ---- all of it
@@ -179,12 +207,12 @@ nothingTold = record { head = noHead; triggers = noTriggers; names = noNames; fi
 
 unfoldable pub tellEntry : List ℕ → Told → Entry → Told
 tellEntry f t e = record {
-  head = tellHead f (t .head) e;
-  triggers = tellTrigger f (t .triggers) e;
+  head = tellHead (t .head) e;
+  triggers = tellTrigger (t .triggers) e;
   names = tellName f (t .names) e;
-  filters = tellFilter f (t .filters) e;
-  drafts = tellDraft f (t .drafts) e;
+  filters = tellFilter (t .filters) e;
+  drafts = tellDraft (t .drafts) e;
 }
 
-unfoldable pub told : List ℕ → Index → Told
-told f x = folded (tellEntry f) nothingTold (entriesOf x)
+unfoldable pub told : List ℕ → List Entry → Told
+told f es = folded (tellEntry f) nothingTold es

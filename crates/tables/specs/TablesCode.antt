@@ -7,16 +7,13 @@ use lib.Dec.{leb, eqb}
 use lib.ListN.{take}
 use Rattle.text.specs.Texts.{same}
 use Rattle.grammar.specs.TokensCode.{namesIn}
-use Rattle.file_rules.specs.Element.{goodOf}
-use Rattle.element.specs.ElementCode.{isKind, numbered}
-use Rattle.element.specs.ReadingCode as reading
-use Rattle.document.specs.declared.Entry.{Entry}
-use Rattle.document.specs.declared.Index.{Index}
-use Rattle.document.specs.DocumentCode.{Indexes}
+use Rattle.element.specs.ElementCode.{isKind}
+use Rattle.document.specs.EntriesCode.{Entry, numberIn}
+use Rattle.document.specs.DocumentCode.{Index, Indexes}
 use Rattle.tables.specs.declared.rows.Names.{Names}
 use Rattle.tables.specs.declared.rows.Head.{Head}
 use Rattle.tables.specs.declared.rows.Told.{Told}
-use Rattle.tables.specs.RowsCode.{entriesOf, isUnder, told}
+use Rattle.tables.specs.RowsCode.{isUnder, told}
 use Rattle.file_rules.specs.declared.Refusal.{Refusal}
 use Rattle.file_rules.specs.RefusalCode.{refusedAt}
 use Rattle.tables.specs.declared.Telling.{Telling}
@@ -40,31 +37,30 @@ unfoldable pub firstWhere : (Entry → Bool) → List Entry → Refusal
 firstWhere p [] = refusedAt 0 0
 firstWhere p (e ∷ es) = cond (p e) (refusedAt 10 (e .place)) (firstWhere p es)
 
-unfoldable pub busFault : Head → Index → Refusal
-busFault h x = cond (lacksFirst (h .channels) (h .present)) (firstWhere (λ e. isKind (e .kind) "CAN_BUS") (entriesOf x)) (refusedAt 0 0)
+unfoldable pub busFault : Head → List Entry → Refusal
+busFault h es = cond (lacksFirst (h .channels) (h .present)) (firstWhere (λ e. isKind (e .kind) "CAN_BUS") es) (refusedAt 0 0)
 
 -- an entry names a channel that is not below n
-unfoldable pub isBeyond : List ℕ → ℕ → Entry → Bool
-isBeyond f n e =
-    cond (isKind (e .kind) "CHANNEL") (leb n (goodOf (numbered f (e .place))))
-    (cond (isUnder "TRIGGERS" (e .kind) && not (isKind (e .kind) "TRIGGER_STARTUP")) (leb n (reading.slotValue (e .kind) 2 f (e .place)))
-    false)
+unfoldable pub isBeyond : ℕ → Entry → Bool
+isBeyond n e =
+    cond (isKind (e .kind) "CHANNEL") (leb n (e .number))
+    (cond (isUnder "TRIGGERS" (e .kind) && not (isKind (e .kind) "TRIGGER_STARTUP")) (leb n (numberIn e "channel")) false)
 
-unfoldable pub channelFault : List ℕ → Head → Index → Refusal
-channelFault f h x = firstWhere (isBeyond f (h .channels)) (entriesOf x)
+unfoldable pub channelFault : Head → List Entry → Refusal
+channelFault h es = firstWhere (isBeyond (h .channels)) es
 
 -- ---- the first of them
 abbrev pub orElse : Refusal → Refusal → Refusal
 orElse a b = cond (eqb (a .number) 0) b a
 
-unfoldable pub tableFault : List ℕ → Index → Told → Refusal
-tableFault f x t = orElse (nameFault f (t .names)) (orElse (busFault (t .head) x) (channelFault f (t .head) x))
+unfoldable pub tableFault : List ℕ → List Entry → Told → Refusal
+tableFault f es t = orElse (nameFault f (t .names)) (orElse (busFault (t .head) es) (channelFault (t .head) es))
 
-unfoldable pub tabled : List ℕ → Index → Telling
-tabled f x = record { fault = orElse (x .fault) (tableFault f x (told f x)); told = told f x }
+-- the tables of a file, by the first refusal of 1 to 8 and its entries
+unfoldable pub tabled : List ℕ → Refusal → List Entry → Telling
+tabled f fault es = record { fault = orElse fault (tableFault f es (told f es)); told = told f es }
 
--- the tables of a file, by its index
 pub record Tabled (f : List ℕ) (r : Telling) : Type 0 where
   pub index : Index
   pub indexes : Indexes f index
-  pub same-tables : r ≡ tabled f index
+  pub same-tables : r ≡ tabled f (index .fault) (index .entries)

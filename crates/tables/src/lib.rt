@@ -1,37 +1,33 @@
 // What the known elements of a file say together, or the first of its refusals up to 10.
 //
-// rows: what the elements say, one after the other. The root judges 9 and 10.
-// Promises: `read_tables` answers every file, by value; proofs/Laws.antt, `reads-well`: for a file without faults these are the tables that
+// cells: the words of an entry. rows: what the entries say, one after the other. The root judges 9 and 10.
+// Promises: `read_tables` answers every file, by value; proofs/Laws.antt, `reads-well`: for a file without faults what is told are the tables that
 // crates/file_rules/specs/Tables.antt says, and so is its first fault of 9 and 10.
 // May not touch: expressions, and the words of a plan.
 ghost use mathlib.Core.Path.{_≡_};
 ghost use mathlib.Core.List.{[]};
 ghost use mathlib.Core.Bool.{false};
 ghost use Prim.Native.Nat.{_≤_};
-ghost use lib.ListN.{length, getD, take, drop};
+ghost use lib.ListN.{length, take, drop};
 ghost use Rattle.text.specs.Texts.{same};
 ghost use Rattle.grammar.specs.TokensCode.{spans};
-ghost use Rattle.file_rules.specs.Element.{goodOf};
 ghost use Rattle.element.specs.ElementCode.{isKind};
-ghost use Rattle.tables.specs.RowsCode.{entriesOf};
+ghost use Rattle.document.specs.EntriesCode.{entriesIn};
+ghost use Rattle.tables.specs.RowsCode.{entryAt};
 ghost use Rattle.tables.specs.TablesCode.{usedFrom, nameFault, firstWhere, busFault, isBeyond, channelFault, tableFault, Tabled};
 ghost use Rattle.file_rules.specs.RefusalCode.{refusedAt};
 ghost use Rattle.lists.specs.Lists.{any};
-ghost use Rattle.lists.specs.FlagsCode.{lacksFirst};
 
+mod cells;
 pub mod rows;
 
 use crate::rows::Head;
 use crate::rows::Names;
 use crate::rows::Told;
-use document::Entry;
-use document::Index;
-use element::fields;
-use element::triggers;
 use file_rules::Refusal;
-use schema::Kind;
+use schema::attributes;
+use schema::kinds;
 use text::texts;
-use values::Worth;
 
 // What a file says, or its first refusal.
 pub struct Telling {
@@ -112,105 +108,68 @@ fn name_fault(file: &[u8], names: Names) -> Refusal
     used_name(file, &starts[..n], &ends[..n], &places[..n])
 }
 
-fn is_bus(kind: Kind) -> bool
-    ensures { λ r. ⌜ r ≡ isKind kind "CAN_BUS" ⌝ }
-{
-    match kind {
-        Kind::CanBus => true,
-        _ => false,
-    }
-}
-
-fn entry_count(index: Index) -> usize
-    ensures { λ r. ⌜ (r ≡ length (entriesOf index)) × (r ≤ 382) ⌝ }
-{
-    lists::least(index.count, 382)
-}
-
 // 10 at the first CAN_BUS.
-fn first_bus(index: Index) -> Refusal
-    ensures { λ r. ⌜ r ≡ firstWhere (λ e. isKind (e .kind) "CAN_BUS") (entriesOf index) ⌝ }
+fn first_bus(words: &[u32]) -> Refusal
+    ensures { λ r. ⌜ r ≡ firstWhere (λ e. isKind (e .kind) "CAN_BUS") (entriesIn (now (words .entry))) ⌝ }
 {
-    let n = entry_count(index);
-    let entries = index.entries;
-    let mut i = 0;
-    while i < n {
-        let entry = entries[i];
-        let kind = entry.kind;
-        if is_bus(kind) {
-            return Refusal {
-                number: 10,
-                place: entry.place,
-            };
+    let mut at = 0;
+    while at < words.len() {
+        let kind = cells::kind_at(words, at);
+        if kinds::is_same(kind, kinds::CAN_BUS) {
+            let place = cells::place_at(words, at);
+            return Refusal { number: 10, place };
         }
-        i += 1;
+        at = cells::next(words, at);
     }
     no_refusal()
 }
 
 // 10: as many channels as there are PARAMETERS, but not those from 0 on.
-fn bus_fault(head: Head, index: Index) -> Refusal
-    ensures { λ r. ⌜ r ≡ busFault head index ⌝ }
+fn bus_fault(head: Head, words: &[u32]) -> Refusal
+    ensures { λ r. ⌜ r ≡ busFault head (entriesIn (now (words .entry))) ⌝ }
 {
     let flags = head.present;
     let n = head.channels as usize;
     if lists::lacks_first(&flags, n) {
-        return first_bus(index);
+        return first_bus(words);
     }
     no_refusal()
 }
 
-fn good_of(w: Worth) -> u32
-    ensures { λ r. ⌜ r ≡ goodOf w ⌝ }
-{
-    match w {
-        Worth::Good(v) => v,
-        Worth::Bad => 0,
-        Worth::NotCarried => 0,
-    }
-}
-
 // Does an element name a channel that is not below `channels`?
-fn is_beyond(file: &[u8], channels: u32, entry: Entry) -> bool
-    ensures { λ r. ⌜ r ≡ isBeyond (now (file .entry)) channels entry ⌝ }
+fn is_beyond(words: &[u32], at: usize, channels: u32) -> bool
+    ensures { λ r. ⌜ r ≡ isBeyond channels (entryAt (now (words .entry)) at) ⌝ }
 {
-    let kind = entry.kind;
-    let place = entry.place;
-    match kind {
-        Kind::Channel => {
-            let w = fields::channel_number(file, place);
-            channels <= good_of(w)
-        }
-        Kind::MsgId | Kind::MsgDlc | Kind::ErrorFrame => channels
-            <= triggers::number_at(file, place, kind, 2),
-        _ => false,
+    let kind = cells::kind_at(words, at);
+    if kinds::is_same(kind, kinds::CHANNEL) {
+        return channels <= cells::number_at(words, at);
     }
+    let startup = kinds::is_same(kind, kinds::TRIGGER_STARTUP);
+    if kinds::is_in(kinds::TRIGGERS, kind) & !startup {
+        return channels <= cells::number_in(words, at, attributes::CHANNEL);
+    }
+    false
 }
 
 // 10 at the first element that names a channel which is not there.
-fn channel_fault(file: &[u8], head: Head, index: Index) -> Refusal
-    ensures { λ r. ⌜ r ≡ channelFault (now (file .entry)) head index ⌝ }
+fn channel_fault(words: &[u32], head: Head) -> Refusal
+    ensures { λ r. ⌜ r ≡ channelFault head (entriesIn (now (words .entry))) ⌝ }
 {
-    let n = entry_count(index);
     let channels = head.channels;
-    let entries = index.entries;
-    let mut i = 0;
-    while i < n {
-        let entry = entries[i];
-        if is_beyond(file, channels, entry) {
-            return Refusal {
-                number: 10,
-                place: entry.place,
-            };
+    let mut at = 0;
+    while at < words.len() {
+        if is_beyond(words, at, channels) {
+            let place = cells::place_at(words, at);
+            return Refusal { number: 10, place };
         }
-        i += 1;
+        at = cells::next(words, at);
     }
     no_refusal()
 }
 
 // The first of 9 and 10.
-fn table_fault(file: &[u8], index: Index, told: Told) -> Refusal
-    ensures { λ r. ⌜ r ≡ tableFault (now (file .entry)) index told ⌝ }
+fn table_fault(file: &[u8], words: &[u32], told: Told) -> Refusal
+    ensures { λ r. ⌜ r ≡ tableFault (now (file .entry)) (entriesIn (now (words .entry))) told ⌝ }
 {
     let names = told.names;
     let head = told.head;
@@ -218,23 +177,25 @@ fn table_fault(file: &[u8], index: Index, told: Told) -> Refusal
     if used.number != 0 {
         return used;
     }
-    let gap = bus_fault(head, index);
+    let gap = bus_fault(head, words);
     if gap.number != 0 {
         return gap;
     }
-    channel_fault(file, head, index)
+    channel_fault(words, head)
 }
 
 // The tables of a file, or the first of its refusals 1 to 10.
 pub fn read_tables(file: &[u8]) -> Telling
     ensures { λ r. ⌜ Tabled (now (file .entry)) r ⌝ }
 {
-    let index = document::read_index(file);
-    let told = rows::tell(file, index);
-    let first = index.fault;
+    let mut words = [0; 3498];
+    let found = document::read_index(file, &mut words);
+    let end = found.end;
+    let told = rows::tell(file, &words[..end]);
+    let first = found.fault;
     if first.number != 0 {
         return Telling { fault: first, told };
     }
-    let fault = table_fault(file, index, told);
+    let fault = table_fault(file, &words[..end], told);
     Telling { fault, told }
 }

@@ -1,25 +1,24 @@
 // What the known elements of a file say, one after the other: triggers with their names, filters, statements, channels.
 //
-// Promises: `tell` answers any file and index, by value, as specs/RowsCode.antt gives it.
+// Promises: `tell` answers any file and entries, by value, as specs/RowsCode.antt gives it.
 ghost use Prim.Native.Nat.{_<_, _≤_, _+_, _^_};
 ghost use mathlib.Core.Path.{_≡_};
 ghost use mathlib.Core.Bool.{cond};
 ghost use lib.Dec.{ltb};
 ghost use Rattle.text.specs.Texts.{bytes};
-ghost use Rattle.file_rules.specs.Element.{goodOf};
-ghost use Rattle.element.specs.ElementCode.{numbered, valueAt};
-ghost use Rattle.tables.specs.RowsCode.{folded, entriesOf, isUnder, noTriggers, tellTrigger, noNames, tellName, noFilters, withChannel, tellFilter, emptyDraft, noDrafts, pushAction, withPart, tellDraft, noHead, tellHead, told};
-use document::Index;
+ghost use Rattle.records.specs.Records.{dlcTop};
+ghost use Rattle.element.specs.ElementCode.{valueAt};
+ghost use Rattle.document.specs.EntriesCode.{entriesIn};
+ghost use Rattle.tables.specs.RowsCode.{folded, entryAt, causeFrom, triggerFrom, effectOf, filterFrom, noTriggers, tellTrigger, noNames, tellName, noFilters, withChannel, tellFilter, emptyDraft, noDrafts, pushAction, actionFrom, withPart, isPart, tellDraft, noHead, tellHead, told};
+use crate::cells;
 use element::fields;
-use element::filters;
-use element::triggers;
 use records::Cause;
 use records::Effect;
 use records::Filter;
 use records::Timeout;
 use records::Trigger;
-use schema::Kind;
-use values::Worth;
+use schema::attributes;
+use schema::kinds;
 use walk::Part;
 use writer::Actions;
 use writer::Filters;
@@ -60,15 +59,6 @@ pub struct Told {
     pub drafts: Drafts,
 }
 
-fn is_trigger(kind: Kind) -> bool
-    ensures { λ r. ⌜ r ≡ isUnder "TRIGGERS" kind ⌝ }
-{
-    match kind {
-        Kind::MsgId | Kind::MsgDlc | Kind::ErrorFrame | Kind::Startup => true,
-        _ => false,
-    }
-}
-
 fn no_triggers() -> Triggers
     ensures { λ r. ⌜ r ≡ noTriggers ⌝ }
 {
@@ -82,20 +72,60 @@ fn no_triggers() -> Triggers
     }
 }
 
-fn tell_triggers(file: &[u8], index: Index) -> Triggers
-    ensures { λ r. ⌜ r ≡ folded (tellTrigger (now (file .entry))) noTriggers (entriesOf index) ⌝ }
+fn cause_from(words: &[u32], at: usize) -> Cause
+    ensures { λ r. ⌜ r ≡ causeFrom (entryAt (now (words .entry)) at) ⌝ }
 {
-    let n = lists::least(index.count, 382);
+    let channel = cells::number_in(words, at, attributes::CHANNEL);
+    let kind = cells::kind_at(words, at);
+    if kinds::is_same(kind, kinds::TRIGGER_MSG_ID) {
+        let wide = cells::number_in(words, at, attributes::CAN_EXT);
+        let lower = cells::number_in(words, at, attributes::MSGID_MIN);
+        let upper = cells::number_in(words, at, attributes::MSGID);
+        return Cause::Id {
+            channel,
+            ext: wide == 1,
+            lower,
+            upper,
+        };
+    }
+    if kinds::is_same(kind, kinds::TRIGGER_MSG_DLC) {
+        let lower = cells::number_in(words, at, attributes::DLC_MIN);
+        let upper = cells::number_in(words, at, attributes::DLC);
+        return Cause::Length {
+            channel,
+            lower,
+            upper,
+        };
+    }
+    if kinds::is_same(kind, kinds::TRIGGER_MSG_ERROR_FRAME) {
+        return Cause::Error(channel);
+    }
+    Cause::Startup
+}
+
+// The trigger that an entry says.
+fn trigger_from(words: &[u32], at: usize) -> Trigger
+    ensures { λ r. ⌜ r ≡ triggerFrom (entryAt (now (words .entry)) at) ⌝ }
+{
+    let word = cells::number_in(words, at, attributes::TIMEOUT);
+    let timeout = records::timeout_at(word);
+    let cause = cause_from(words, at);
+    Trigger { cause, timeout }
+}
+
+fn tell_triggers(words: &[u32]) -> Triggers
+    ensures { λ r. ⌜ r ≡ folded tellTrigger noTriggers (entriesIn (now (words .entry))) ⌝ }
+{
     let mut t = no_triggers();
-    let mut i = 0;
-    while i < n {
-        let e = index.entries[i];
-        let kind = e.kind;
-        i += 1;
-        if is_trigger(kind) {
+    let mut at = 0;
+    while at < words.len() {
+        let here = at;
+        let kind = cells::kind_at(words, here);
+        at = cells::next(words, here);
+        if kinds::is_in(kinds::TRIGGERS, kind) {
             let next = t.count;
             if next < 32 {
-                t.rows[next] = triggers::trigger_at(file, e.place, kind);
+                t.rows[next] = trigger_from(words, here);
                 t.count = next + 1;
             }
         }
@@ -109,29 +139,29 @@ fn name_at(file: &[u8], place: usize) -> Part
     fields::value_at(file, place, b"name")
 }
 
-fn tell_names(file: &[u8], index: Index) -> Names
-    ensures { λ r. ⌜ r ≡ folded (tellName (now (file .entry))) noNames (entriesOf index) ⌝ }
+fn tell_names(file: &[u8], words: &[u32]) -> Names
+    ensures { λ r. ⌜ r ≡ folded (tellName (now (file .entry))) noNames (entriesIn (now (words .entry))) ⌝ }
 {
-    let n = lists::least(index.count, 382);
     let mut t = Names {
         starts: [0; 32],
         ends: [0; 32],
         places: [0; 32],
         count: 0,
     };
-    let mut i = 0;
-    while i < n {
-        let e = index.entries[i];
-        let kind = e.kind;
-        i += 1;
-        if is_trigger(kind) {
-            let at = t.count;
-            if at < 32 {
-                let p = name_at(file, e.place);
-                t.starts[at] = p.from;
-                t.ends[at] = p.to;
-                t.places[at] = e.place;
-                t.count = at + 1;
+    let mut at = 0;
+    while at < words.len() {
+        let here = at;
+        let kind = cells::kind_at(words, here);
+        at = cells::next(words, here);
+        if kinds::is_in(kinds::TRIGGERS, kind) {
+            let last = t.count;
+            if last < 32 {
+                let place = cells::place_at(words, here);
+                let p = name_at(file, place);
+                t.starts[last] = p.from;
+                t.ends[last] = p.to;
+                t.places[last] = place;
+                t.count = last + 1;
             }
         }
     }
@@ -153,6 +183,44 @@ fn no_filters() -> Filters
     Filters {
         rows: [none; 32],
         count: 0,
+    }
+}
+
+fn effect_of(kind: usize) -> Effect
+    ensures { λ r. ⌜ r ≡ effectOf kind ⌝ }
+{
+    if kinds::is_same(kind, kinds::MESSAGE_PASS) {
+        return Effect::Pass;
+    }
+    Effect::Stop
+}
+
+fn longest_from(given: bool, dlc: u32) -> u32
+    ensures { λ r. ⌜ r ≡ cond given dlc dlcTop ⌝ }
+{
+    if given { dlc } else { records::DLC_TOP }
+}
+
+// The filter that an entry says, without channels.
+fn filter_from(words: &[u32], at: usize) -> Filter
+    ensures { λ r. ⌜ r ≡ filterFrom 0 (entryAt (now (words .entry)) at) ⌝ }
+{
+    let effect = effect_of(cells::kind_at(words, at));
+    let wide = cells::number_in(words, at, attributes::CAN_EXT);
+    let given = cells::flag_in(words, at, attributes::DLC);
+    let dlc = cells::number_in(words, at, attributes::DLC);
+    let lower = cells::number_in(words, at, attributes::MSGID_MIN);
+    let upper = cells::number_in(words, at, attributes::MSGID);
+    let shortest = cells::number_in(words, at, attributes::DLC_MIN);
+    let longest = longest_from(given, dlc);
+    Filter {
+        effect,
+        mask: 0,
+        ext: wide == 1,
+        lower,
+        upper,
+        shortest,
+        longest,
     }
 }
 
@@ -187,47 +255,31 @@ fn with_channel(mask: u32, channel: u32) -> u32
     mask + bit
 }
 
-fn channel_at(file: &[u8], place: usize) -> u32
-    ensures { λ r. ⌜ r ≡ goodOf (numbered (now (file .entry)) place) ⌝ }
-{
-    let w = fields::channel_number(file, place);
-    match w {
-        Worth::Good(v) => v,
-        Worth::Bad => 0,
-        Worth::NotCarried => 0,
-    }
-}
-
 // A CHANNEL belongs to the filter before it.
-fn tell_filters(file: &[u8], index: Index) -> Filters
-    ensures { λ r. ⌜ r ≡ folded (tellFilter (now (file .entry))) noFilters (entriesOf index) ⌝ }
+fn tell_filters(words: &[u32]) -> Filters
+    ensures { λ r. ⌜ r ≡ folded tellFilter noFilters (entriesIn (now (words .entry))) ⌝ }
 {
-    let n = lists::least(index.count, 382);
     let mut t = no_filters();
-    let mut i = 0;
-    while i < n {
-        let e = index.entries[i];
-        let kind = e.kind;
-        i += 1;
-        match kind {
-            Kind::MessagePass | Kind::MessageStop => {
-                let at = t.count;
-                if at < 32 {
-                    t.rows[at] = filters::filter_at(file, e.place, kind, 0);
-                    t.count = at + 1;
-                }
+    let mut at = 0;
+    while at < words.len() {
+        let here = at;
+        let kind = cells::kind_at(words, here);
+        at = cells::next(words, here);
+        if kinds::is_in(kinds::FILTERS, kind) {
+            let next = t.count;
+            if next < 32 {
+                t.rows[next] = filter_from(words, here);
+                t.count = next + 1;
             }
-            Kind::Channel => {
-                let count = t.count;
-                if (1 <= count) & (count <= 32) {
-                    let last = count - 1;
-                    let channel = channel_at(file, e.place);
-                    let mut x = t.rows[last];
-                    x.mask = with_channel(x.mask, channel);
-                    t.rows[last] = x;
-                }
+        } else if kinds::is_same(kind, kinds::CHANNEL) {
+            let count = t.count;
+            if (1 <= count) & (count <= 32) {
+                let last = count - 1;
+                let channel = cells::number_at(words, here);
+                let mut x = t.rows[last];
+                x.mask = with_channel(x.mask, channel);
+                t.rows[last] = x;
             }
-            _ => {}
         }
     }
     t
@@ -270,23 +322,32 @@ fn push_action(a: Actions, w: u32) -> Actions
     a
 }
 
+// The word of an action.
+fn action_from(kind: usize) -> u32
+    ensures { λ r. ⌜ r ≡ actionFrom kind ⌝ }
+{
+    if kinds::is_same(kind, kinds::ACTION_START_LOG) {
+        return 1;
+    }
+    if kinds::is_same(kind, kinds::ACTION_STOP_LOG) {
+        return 2;
+    }
+    3
+}
+
 // EXPRESSION and actions belong to the STATEMENT before them.
-fn with_part(d: Draft, kind: Kind, place: usize) -> Draft
+fn with_part(d: Draft, kind: usize, place: usize) -> Draft
     ensures { λ r. ⌜ r ≡ withPart kind place d ⌝ }
 {
     let before = d.actions;
-    let word = match kind {
-        Kind::Expression => {
-            return Draft {
-                post: d.post,
-                actions: before,
-                text: place,
-            };
-        }
-        Kind::StartLog => 1,
-        Kind::StopLog => 2,
-        _ => 3,
-    };
+    if kinds::is_same(kind, kinds::EXPRESSION) {
+        return Draft {
+            post: d.post,
+            actions: before,
+            text: place,
+        };
+    }
+    let word = action_from(kind);
     let actions = push_action(before, word);
     Draft {
         post: d.post,
@@ -295,34 +356,40 @@ fn with_part(d: Draft, kind: Kind, place: usize) -> Draft
     }
 }
 
-fn tell_drafts(file: &[u8], index: Index) -> Drafts
-    ensures { λ r. ⌜ r ≡ folded (tellDraft (now (file .entry))) noDrafts (entriesOf index) ⌝ }
+// Is it one of these?
+fn is_part(kind: usize) -> bool
+    ensures { λ r. ⌜ r ≡ isPart kind ⌝ }
 {
-    let n = lists::least(index.count, 382);
+    if kinds::is_same(kind, kinds::EXPRESSION) {
+        return true;
+    }
+    kinds::is_in(kinds::ACTIONS, kind)
+}
+
+fn tell_drafts(words: &[u32]) -> Drafts
+    ensures { λ r. ⌜ r ≡ folded tellDraft noDrafts (entriesIn (now (words .entry))) ⌝ }
+{
     let mut t = no_drafts();
-    let mut i = 0;
-    while i < n {
-        let e = index.entries[i];
-        let kind = e.kind;
-        i += 1;
-        match kind {
-            Kind::Statement => {
-                let at = t.count;
-                if at < 16 {
-                    let post = triggers::number_at(file, e.place, kind, 1);
-                    t.rows[at] = empty_draft(post);
-                    t.count = at + 1;
-                }
+    let mut at = 0;
+    while at < words.len() {
+        let here = at;
+        let kind = cells::kind_at(words, here);
+        at = cells::next(words, here);
+        if kinds::is_same(kind, kinds::STATEMENT) {
+            let next = t.count;
+            if next < 16 {
+                let post = cells::number_in(words, here, attributes::POSTTRIGGER);
+                t.rows[next] = empty_draft(post);
+                t.count = next + 1;
             }
-            Kind::Expression | Kind::StartLog | Kind::StopLog | Kind::StopLogCompletely => {
-                let count = t.count;
-                if (1 <= count) & (count <= 16) {
-                    let last = count - 1;
-                    let d = t.rows[last];
-                    t.rows[last] = with_part(d, kind, e.place);
-                }
+        } else if is_part(kind) {
+            let count = t.count;
+            if (1 <= count) & (count <= 16) {
+                let last = count - 1;
+                let d = t.rows[last];
+                let place = cells::place_at(words, here);
+                t.rows[last] = with_part(d, kind, place);
             }
-            _ => {}
         }
     }
     t
@@ -335,47 +402,42 @@ fn one_more(channels: u32) -> u32
     if channels < 5 { channels + 1 } else { channels }
 }
 
-fn tell_head(file: &[u8], index: Index) -> Head
-    ensures { λ r. ⌜ r ≡ folded (tellHead (now (file .entry))) noHead (entriesOf index) ⌝ }
+fn tell_head(words: &[u32]) -> Head
+    ensures { λ r. ⌜ r ≡ folded tellHead noHead (entriesIn (now (words .entry))) ⌝ }
 {
-    let n = lists::least(index.count, 382);
     let mut h = Head {
         channels: 0,
         present: [false; 5],
         all: false,
     };
-    let mut i = 0;
-    while i < n {
-        let e = index.entries[i];
-        let kind = e.kind;
-        i += 1;
-        match kind {
-            Kind::Parameters => {
-                let channel = triggers::number_at(file, e.place, kind, 0);
-                h.channels = one_more(h.channels);
-                if channel < 5 {
-                    h.present[channel as usize] = true;
-                }
+    let mut at = 0;
+    while at < words.len() {
+        let here = at;
+        let kind = cells::kind_at(words, here);
+        at = cells::next(words, here);
+        if kinds::is_same(kind, kinds::PARAMETERS) {
+            let channel = cells::number_in(words, here, attributes::CHANNEL);
+            h.channels = one_more(h.channels);
+            if channel < 5 {
+                h.present[channel as usize] = true;
             }
-            Kind::Mode => {
-                let log = triggers::number_at(file, e.place, kind, 0);
-                h.all = h.all | (log == 1);
-            }
-            _ => {}
+        } else if kinds::is_same(kind, kinds::MODE) {
+            let log = cells::number_in(words, here, attributes::LOG_ALL);
+            h.all = h.all | (log == 1);
         }
     }
     h
 }
 
-// What the entries of an index say, in their order.
-pub(crate) fn tell(file: &[u8], index: Index) -> Told
-    ensures { λ r. ⌜ r ≡ told (now (file .entry)) index ⌝ }
+// What the entries say, in their order.
+pub(crate) fn tell(file: &[u8], words: &[u32]) -> Told
+    ensures { λ r. ⌜ r ≡ told (now (file .entry)) (entriesIn (now (words .entry))) ⌝ }
 {
-    let head = tell_head(file, index);
-    let triggers = tell_triggers(file, index);
-    let names = tell_names(file, index);
-    let filters = tell_filters(file, index);
-    let drafts = tell_drafts(file, index);
+    let head = tell_head(words);
+    let triggers = tell_triggers(words);
+    let names = tell_names(file, words);
+    let filters = tell_filters(words);
+    let drafts = tell_drafts(words);
     Told {
         head,
         triggers,

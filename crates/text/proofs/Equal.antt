@@ -27,6 +27,9 @@ same-equal (a ∷ s) (b ∷ t) e =
     (λ p. let q : same s t ≡ true = rw p at e in ap (λ (c : ℕ). c ∷ s) (eqb-true a b p) ∙ ap (λ (u : List ℕ). b ∷ u) (same-equal s t q))
     (λ p. absurd (true≢false (sym (rw p at e))))
 
+pub same-back : (s t : List ℕ) → same s t ≡ false → same t s ≡ false
+same-back s t e = by-cases (same t s) (λ g. absurd (true≢false (sym (same-self s) ∙ (ap (same s) (sym (same-equal t s g)) ∙ e)))) (λ g. g)
+
 pub other-length : (s t : List ℕ) → (length s ≡ length t → ⊥) → same s t ≡ false
 other-length s t h = by-cases (same s t) (λ e. absurd (h (ap length (same-equal s t e)))) (λ e. e)
 

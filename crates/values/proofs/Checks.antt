@@ -8,7 +8,7 @@ use Rattle.values.specs.Numbers.{digit}
 use Rattle.values.specs.NumbersCode.{digitsFrom, digits, numberSpelt}
 use Rattle.values.specs.declared.Number.the-variants.{Value, Nothing}
 use Rattle.values.specs.declared.Sort.the-variants.{Timeout}
-use Rattle.values.specs.declared.Worth.the-variants.{Good, Bad}
+use Rattle.values.specs.declared.Worth.the-variants.{Good, Refused}
 use Rattle.lists.specs.Lists.{all}
 
 pub record Numbers : Type 0 where
@@ -29,7 +29,7 @@ record Others : Type 0 where
   plus : numberSpelt (bytes "+1") ≡ Nothing
   blank : numberSpelt (bytes " 1") ≡ Nothing
   forever : worthOf Timeout (bytes "-1") ≡ Good 4294967295
-  large : worthOf Timeout (bytes "4294967295") ≡ Bad
+  large : worthOf Timeout (bytes "4294967295") ≡ Refused 6
   operator : triggerName (bytes "NOT") ≡ false
   name : triggerName (bytes "NOT_1") ≡ true
 

@@ -9,7 +9,7 @@ use Rattle.text.proofs.Spans.{drop-one}
 use Rattle.values.specs.Values.{ranged}
 use Rattle.values.specs.declared.Number.{Number}
 use Rattle.values.specs.declared.Number.the-variants.{Value, Nothing}
-use Rattle.values.specs.declared.Worth.the-variants.{Good, Bad, NotCarried}
+use Rattle.values.specs.declared.Worth.the-variants.{Good, Refused}
 use Rattle.lists.specs.Lists.{all}
 
 module _ (p : ℕ → Bool) (s : List ℕ) (i : ℕ) where
@@ -27,17 +27,17 @@ module _ (p : ℕ → Bool) (s : List ℕ) (i : ℕ) where
 
 -- what the number n, which is v, is worth in a range
 module _ (lo hi most : ℕ) (n : Number) where
-  pub no-number : n ≡ Nothing → Bad ≡ ranged lo hi most n
+  pub no-number : n ≡ Nothing → Refused 6 ≡ ranged lo hi most n
   no-number e = rw e
 
   module _ (v : ℕ) (e : n ≡ Value v) where
-    pub too-low : v < lo → Bad ≡ ranged lo hi most n
+    pub too-low : v < lo → Refused 6 ≡ ranged lo hi most n
     too-low h = rw (e, lt-leb _ _ h)
 
-    pub too-high : lo ≤ v → hi < v → Bad ≡ ranged lo hi most n
+    pub too-high : lo ≤ v → hi < v → Refused 6 ≡ ranged lo hi most n
     too-high h k = rw (e, le-leb _ _ h, lt-leb _ _ k)
 
-    pub beyond : lo ≤ v → v ≤ hi → most < v → NotCarried ≡ ranged lo hi most n
+    pub beyond : lo ≤ v → v ≤ hi → most < v → Refused 7 ≡ ranged lo hi most n
     beyond h k m = rw (e, le-leb _ _ h, le-leb _ _ k, lt-leb _ _ m)
 
     pub carried : lo ≤ v → v ≤ hi → v ≤ most → Good v ≡ ranged lo hi most n

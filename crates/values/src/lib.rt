@@ -29,11 +29,16 @@ pub enum Sort {
     Flexible,
 }
 
-// What a value is worth: a number for the plan, bad (refusal 6), or known and not carried (refusal 7).
+// Refusal 6: bad value or stray text.
+pub const BAD_VALUE: u32 = 6;
+
+// Refusal 7: known and not carried.
+pub const NOT_CARRIED: u32 = 7;
+
+// What a value is worth: a number for the plan, or a refusal by its number.
 pub enum Worth {
     Good(u32),
-    Bad,
-    NotCarried,
+    Refused(u32),
 }
 
 // The digit that a byte stands for; 16 where it stands for none.

@@ -1,4 +1,4 @@
-// What a value is worth where its attribute asks for its sort: a number for the plan, bad (6), or known and not carried (7).
+// What a value is worth where its attribute asks for its sort: a number for the plan, or refusal 6 or 7.
 //
 // Promises: each answer is the paper's, for every sort and text.
 ghost use mathlib.Core.Path.{_≡_};
@@ -6,6 +6,8 @@ ghost use Rattle.text.specs.Kinds.{isName};
 ghost use Rattle.values.specs.declared.Sort.the-variants.{Timeout};
 ghost use Rattle.values.specs.Values.{eitherWord, ranged, triggerName, worthOf};
 ghost use Rattle.lists.specs.Lists.{all};
+use crate::BAD_VALUE;
+use crate::NOT_CARRIED;
 use crate::Number;
 use crate::Sort;
 use crate::Worth;
@@ -25,21 +27,21 @@ fn one_of(text: &[u8], nought: &[u8], one: &[u8]) -> Number
     Number::Nothing
 }
 
-// A number in a range; anything else is bad.
+// A number in a range; anything else is refused: 6, or 7 above `most`.
 fn ranged_from(answer: Number, lo: u32, hi: u32, most: u32) -> Worth
     ensures { λ r. ⌜ r ≡ ranged lo hi most answer ⌝ }
 {
     let Number::Value(v) = answer else {
-        return Worth::Bad;
+        return Worth::Refused(BAD_VALUE);
     };
     if v < (lo as u64) {
-        return Worth::Bad;
+        return Worth::Refused(BAD_VALUE);
     }
     if (hi as u64) < v {
-        return Worth::Bad;
+        return Worth::Refused(BAD_VALUE);
     }
     if (most as u64) < v {
-        return Worth::NotCarried;
+        return Worth::Refused(NOT_CARRIED);
     }
     Worth::Good(v as u32)
 }
@@ -103,10 +105,10 @@ pub fn worth_of(sort: Sort, text: &[u8]) -> Worth
             if is_trigger_name(text) {
                 Worth::Good(0)
             } else {
-                Worth::Bad
+                Worth::Refused(BAD_VALUE)
             }
         }
         Sort::Unread => Worth::Good(0),
-        Sort::Flexible => Worth::NotCarried,
+        Sort::Flexible => Worth::Refused(NOT_CARRIED),
     }
 }

@@ -3,12 +3,6 @@
 use borrow.Author.Needs.{needs}
 use Rattle.converter.proofs.convert.Statement.{statement}
 use Rattle.converter.proofs.convert.Tie as tie
-use Rattle.converter.proofs.convert.Reads as reads
-use Rattle.converter.proofs.convert.Lts as lts
-use Rattle.converter.proofs.sheet_of.Reads as sheet-of-reads
-use Rattle.converter.proofs.statements.compose.Reads as compose-reads
-use Rattle.tables.proofs.read_tables.Reads as read-tables-reads
-use Rattle.writer.proofs.write.Reads as write-reads
 use Rattle.converter.proofs.Laws.{clear, converts-refused, converts-stopped, converts-written, converts-short}
 
 read-tables-requires : tie.Need-read-tables-requires

@@ -3,9 +3,6 @@
 use borrow.Author.Needs.{needs}
 use Rattle.document.proofs.close.Statement.{statement}
 use Rattle.document.proofs.close.Tie as tie
-use Rattle.document.proofs.close.Reads as reads
-use Rattle.document.proofs.close.Lts as lts
-use Rattle.document.proofs.lacks_some.Reads as lacks-some-reads
 use mathlib.Core.Path.{refl}
 use Rattle.document.specs.DocumentCode.{closedWalk, found}
 
@@ -14,7 +11,7 @@ lacks-some-requires c κs = search needs
 
 returns : tie.Need-returns
 unfolding closedWalk found
-returns c = (λ ms. rw (c .before .before .lacks-some .ensures), refl, refl)
+returns c = (λ ms. rw (c .before .before .lacks-some .ensures), refl, refl, refl)
 
 pub close-spec : {M : Type 1} → statement M
 close-spec = tie.close (tie.spec lacks-some-requires returns)

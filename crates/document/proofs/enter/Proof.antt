@@ -3,47 +3,48 @@
 use borrow.Author.Needs.{needs}
 use Rattle.document.proofs.enter.Statement.{statement}
 use Rattle.document.proofs.enter.Tie as tie
-use mathlib.Core.Path.{refl}
+use mathlib.Core.Path.{_≡_, sym, _∙_}
 use native.Mathlib.Omega.{arith}
-use Rattle.document.proofs.Marks.{number-low, enters, enters-none}
-
-kind-number-requires : tie.Need-kind-number-requires
-kind-number-requires c κs = search needs
-
-mul-marks : tie.Need-mul-marks
-mul-marks c = search needs
-
-add-marks : tie.Need-add-marks
-add-marks c = omega (arith, number-low (c .before .before .before .before .args .kind), c .before .kind-number .ensures, c .before .before .before .before .pre .1)
-
-mul-marks-2 : tie.Need-mul-marks-2
-mul-marks-2 c = search needs
-
-slice-write-marks : tie.Need-slice-write-marks
-slice-write-marks c = search needs
-
-add-next : tie.Need-add-next
-add-next c = search needs
-
-same-length : tie.Need-same-length
-same-length c = search needs
+use mathlib.Core.List.{[], _∷_}
+use lib.ListN.{length}
+use Rattle.document.proofs.Entries.{enters, enters-none, put-ends, ruled-put, bare-put, row-long}
 
 returns : tie.Need-returns
-returns c = (rw (c .before .kind-number .ensures) (enters (c .before .before .before .before .args .walk) (c .before .before .before .before .args .marks .now) (c .before .before .before .before .args .kind) (c .before .before .before .before .pre .0) (c .before .before .if1 .taken)), refl)
+returns c = enters-none (c .before .before .args .walk) (c .before .before .args .words .now) (c .before .before .pre .3) _ (c .if1 .taken)
+
+put-head-requires : tie.Need-put-head-requires
+put-head-requires c κs = (omega (arith, c .before .before .before .pre .0, c .before .if1 .left), c .before .before .before .pre .2, c .before .before .before .pre .1)
+
+is-ruled-requires : tie.Need-is-ruled-requires
+is-ruled-requires c κs = search needs
+
+put-row-requires : tie.Need-put-row-requires
+put-row-requires c κs = let e = put-ends (c .before .before .before .before .before .before .before .before .before .args .words .now) _ (c .before .before .before .before .before .before .before .before .before .args .kind ∷ c .before .before .before .before .before .before .before .before .before .args .walk .at ∷ c .before .before .before .before .before .before .before .before .before .args .number ∷ []) (c .before .before .before .before .before .before .before .before .before .args .walk .end) _ (c .before .before .before .before .before .put-head .ensures) (omega (arith, c .before .before .before .before .before .before .before .before .before .pre .0, c .before .before .before .before .before .before .before .if1 .left)) in
+    omega (arith, e .0, e .1, c .before .before .before .before .before .before .before .before .before .pre .0, c .before .before .before .before .before .before .before .if1 .left)
+
+same-length : tie.Need-same-length
+same-length c = c .before .before .put-row .ensures .long ∙ c .before .before .before .before .before .before .before .before .put-head .ensures .long
 
 returns-2 : tie.Need-returns-2
-returns-2 c = (enters-none (c .before .before .args .walk) (c .before .before .args .marks .now) (c .before .before .args .kind) (c .if1 .left), refl)
+returns-2 c = let l : length (c .before .before .before .before .before .before .before .before .before .before .before .before .args .g .values) ≡ 25 = search needs in
+    enters (c .before .before .before .before .before .before .before .before .before .before .before .before .args .walk) (c .before .before .before .before .before .before .before .before .before .before .before .before .args .words .now) (c .before .before .before .before .before .before .before .before .before .before .before .before .pre .3) _ _ _ (row-long (c .before .before .before .before .before .before .before .before .before .before .before .before .args .kind) (c .before .before .before .before .before .before .before .before .before .before .before .before .args .walk .at) (c .before .before .before .before .before .before .before .before .before .before .before .before .args .number) (c .before .before .before .before .before .before .before .before .before .before .before .before .args .g) l) (c .before .before .before .before .before .before .before .before .before .before .if1 .left) (ruled-put (c .before .before .before .before .before .before .before .before .before .before .before .before .args .words .now) _ (c .before .before .before .before .before .before .before .before .before .before .before .before .args .walk .end) (c .before .before .before .before .before .before .before .before .before .before .before .before .args .kind) (c .before .before .before .before .before .before .before .before .before .before .before .before .args .walk .at) (c .before .before .before .before .before .before .before .before .before .before .before .before .args .number) _ (c .before .before .before .before .before .before .before .before .before .before .before .before .args .g) (c .before .before .before .before .before .before .before .before .put-head .ensures) (sym (c .before .before .before .before .before .is-ruled .ensures) ∙ c .before .before .before .before .if2 .taken) _ _ (c .before .before .put-row .ensures))
+
+same-length-2 : tie.Need-same-length-2
+same-length-2 c = c .before .before .before .before .put-head .ensures .long
+
+returns-3 : tie.Need-returns-3
+returns-3 c = let l : length (c .before .before .before .before .before .before .before .before .args .g .values) ≡ 25 = search needs in
+    enters (c .before .before .before .before .before .before .before .before .args .walk) (c .before .before .before .before .before .before .before .before .args .words .now) (c .before .before .before .before .before .before .before .before .pre .3) _ _ _ (row-long (c .before .before .before .before .before .before .before .before .args .kind) (c .before .before .before .before .before .before .before .before .args .walk .at) (c .before .before .before .before .before .before .before .before .args .number) (c .before .before .before .before .before .before .before .before .args .g) l) (c .before .before .before .before .before .before .if1 .left) (bare-put (c .before .before .before .before .before .before .before .before .args .words .now) _ (c .before .before .before .before .before .before .before .before .args .walk .end) (c .before .before .before .before .before .before .before .before .args .kind) (c .before .before .before .before .before .before .before .before .args .walk .at) (c .before .before .before .before .before .before .before .before .args .number) _ (c .before .before .before .before .before .before .before .before .args .g) (c .before .before .before .before .put-head .ensures) (sym (c .before .is-ruled .ensures) ∙ c .if2 .left))
 
 pub enter-spec : {M : Type 1} → statement M
 enter-spec =
     tie.close
     (tie.spec
-    kind-number-requires
-    mul-marks
-    add-marks
-    mul-marks-2
-    slice-write-marks
-    add-next
-    same-length
     returns
-    returns-2)
+    put-head-requires
+    is-ruled-requires
+    put-row-requires
+    same-length
+    returns-2
+    same-length-2
+    returns-3)

@@ -3,10 +3,6 @@
 use borrow.Author.Needs.{needs}
 use Rattle.document.proofs.is_looked_at.Statement.{statement}
 use Rattle.document.proofs.is_looked_at.Tie as tie
-use Rattle.document.proofs.is_looked_at.Reads as reads
-use Rattle.document.proofs.is_looked_at.Lts as lts
-use Rattle.document.proofs.is_barred.Reads as is-barred-reads
-use Rattle.document.proofs.is_carried.Reads as is-carried-reads
 use mathlib.Core.Path.{sym, _∙_}
 use borrow.Author.Tests.{eq-eqb, ne-eqb}
 use Rattle.document.specs.DocumentCode.{looked, found}

@@ -3,11 +3,6 @@
 use borrow.Author.Needs.{needs}
 use Rattle.document.proofs.is_over.Statement.{statement}
 use Rattle.document.proofs.is_over.Tie as tie
-use Rattle.document.proofs.is_over.Reads as reads
-use Rattle.document.proofs.is_over.Lts as lts
-use Rattle.lists.proofs.is_flagged.Reads as is-flagged-reads
-use Rattle.schema.proofs.order_of.Reads as order-of-reads
-use Rattle.schema.proofs.times_of.Reads as times-of-reads
 use mathlib.Core.Path.{sym, ap, _∙_}
 use Rattle.document.specs.DocumentCode.{overBy, isOver}
 
@@ -17,14 +12,8 @@ times-of-requires c κs = search needs
 enum-told : tie.Need-enum-told
 enum-told c = search needs
 
-order-of-requires : tie.Need-order-of-requires
-order-of-requires c κs = search needs
-
-slice-aggregate-is-flagged : tie.Need-slice-aggregate-is-flagged
-slice-aggregate-is-flagged c = search needs
-
-is-flagged-requires : tie.Need-is-flagged-requires
-is-flagged-requires c κs = search needs
+has-bit-requires : tie.Need-has-bit-requires
+has-bit-requires c κs = search needs
 
 enum-known-limit : tie.Need-enum-known-limit
 enum-known-limit c = search needs
@@ -40,7 +29,7 @@ cast-result-2 c = search needs
 
 returns : tie.Need-returns
 unfolding isOver
-returns c = c .is-flagged .ensures ∙ (rw (c .before .before .before .order-of .ensures) (ap (λ t. overBy t (c .before .before .before .before .before .before .before .args .kind) (c .before .before .before .before .before .before .before .args .seen)) (sym (sym (c .before .before .before .before .before .before .times-of .ensures) ∙ c .before .before .before .before .enum-told .given .1))))
+returns c = c .has-bit .ensures ∙ ap (λ t. overBy t (c .before .before .before .before .args .kind) (c .before .before .before .before .args .seen)) (sym (sym (c .before .before .before .times-of .ensures) ∙ c .before .enum-told .given .1))
 
 returns-2 : tie.Need-returns-2
 unfolding isOver
@@ -56,9 +45,7 @@ is-over-spec =
     (tie.spec
     times-of-requires
     enum-told
-    order-of-requires
-    slice-aggregate-is-flagged
-    is-flagged-requires
+    has-bit-requires
     enum-known-limit
     cast-result
     enum-known-limit-2

@@ -3,13 +3,9 @@
 use borrow.Author.Needs.{needs}
 use Rattle.document.proofs.lacks_some.Statement.{statement}
 use Rattle.document.proofs.lacks_some.Tie as tie
-use Rattle.document.proofs.lacks_some.Reads as reads
-use Rattle.document.proofs.lacks_some.Lts as lts
-use Rattle.lists.proofs.lacks_first.Reads as lacks-first-reads
-use Rattle.schema.proofs.held_by.Reads as held-by-reads
-use Rattle.schema.proofs.times_of.Reads as times-of-reads
 use mathlib.Core.Path.{sym, ap, _∙_}
 use Rattle.document.specs.DocumentCode.{lacksBy, lacksSome}
+use Rattle.lists.proofs.BitLaws.{lacks-marked}
 
 times-of-requires : tie.Need-times-of-requires
 times-of-requires c κs = search needs
@@ -17,14 +13,11 @@ times-of-requires c κs = search needs
 enum-told : tie.Need-enum-told
 enum-told c = search needs
 
-held-by-requires : tie.Need-held-by-requires
-held-by-requires c κs = search needs
+carried-in-requires : tie.Need-carried-in-requires
+carried-in-requires c κs = search needs
 
-slice-aggregate-lacks-first : tie.Need-slice-aggregate-lacks-first
-slice-aggregate-lacks-first c = search needs
-
-lacks-first-requires : tie.Need-lacks-first-requires
-lacks-first-requires c κs = search needs
+has-all-requires : tie.Need-has-all-requires
+has-all-requires c κs = search needs
 
 enum-told-2 : tie.Need-enum-told-2
 enum-told-2 c = search needs
@@ -34,7 +27,7 @@ enum-told-3 c = search needs
 
 returns : tie.Need-returns
 unfolding lacksSome
-returns c = c .lacks-first .ensures ∙ (rw (c .before .before .before .held-by .ensures) (ap (λ t. lacksBy t (c .before .before .before .before .before .before .before .args .kind) (c .before .before .before .before .before .before .before .args .seen)) (sym (sym (c .before .before .before .before .before .before .times-of .ensures) ∙ c .before .before .before .before .enum-told .given .1))))
+returns c = lacks-marked (c .before .before .before .before .before .args .seen .kinds) _ _ (c .before .carried-in .ensures) (search needs) _ (c .has-all .ensures) ∙ ap (λ t. lacksBy t (c .before .before .before .before .before .args .kind) (c .before .before .before .before .before .args .seen)) (sym (sym (c .before .before .before .before .times-of .ensures) ∙ c .before .before .enum-told .given .1))
 
 returns-2 : tie.Need-returns-2
 unfolding lacksSome
@@ -50,9 +43,8 @@ lacks-some-spec =
     (tie.spec
     times-of-requires
     enum-told
-    held-by-requires
-    slice-aggregate-lacks-first
-    lacks-first-requires
+    carried-in-requires
+    has-all-requires
     enum-told-2
     enum-told-3
     returns

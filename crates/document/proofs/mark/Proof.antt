@@ -4,23 +4,26 @@ use borrow.Author.Needs.{needs}
 use Rattle.document.proofs.mark.Statement.{statement}
 use Rattle.document.proofs.mark.Tie as tie
 use mathlib.Core.Path.{sym, _∙_}
+use mathlib.Core.Bool.{_||_}
+use native.Mathlib.Omega.{arith}
+use borrow.Author.Tests.{lt-ltb}
 use Rattle.document.specs.DocumentCode.{marked}
+use Rattle.schema.proofs.Laws.{known-low}
 
 is-carried-requires : tie.Need-is-carried-requires
 is-carried-requires c κs = search needs
 
-order-of-requires : tie.Need-order-of-requires
-order-of-requires c κs = search needs
-
 one-more-requires : tie.Need-one-more-requires
 one-more-requires c κs = search needs
 
-flagged-requires : tie.Need-flagged-requires
-flagged-requires c κs = search needs
+with-bit-requires : tie.Need-with-bit-requires
+with-bit-requires c κs = search needs
 
 returns : tie.Need-returns
 unfolding marked
-returns c = rw (c .flagged .ensures, c .before .before .one-more .ensures, c .before .before .before .order-of .ensures, sym (c .before .before .before .before .before .is-carried .ensures) ∙ c .before .before .before .before .if1 .taken)
+returns c = let k = sym (c .before .before .before .is-carried .ensures) ∙ c .before .before .if1 .taken in
+    let h = known-low (c .before .before .before .before .args .kind) (rw k) in
+    rw (c .with-bit .ensures, c .before .one-more .ensures, k, lt-ltb (c .before .before .before .before .args .kind) 64 (omega (arith, h)))
 
 returns-2 : tie.Need-returns-2
 unfolding marked
@@ -28,11 +31,4 @@ returns-2 c = rw (sym (c .before .is-carried .ensures) ∙ c .if1 .left)
 
 pub mark-spec : {M : Type 1} → statement M
 mark-spec =
-    tie.close
-    (tie.spec
-    is-carried-requires
-    order-of-requires
-    one-more-requires
-    flagged-requires
-    returns
-    returns-2)
+    tie.close (tie.spec is-carried-requires one-more-requires with-bit-requires returns returns-2)

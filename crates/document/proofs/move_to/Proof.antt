@@ -7,7 +7,7 @@ use Rattle.document.specs.DocumentCode.{found}
 
 returns : tie.Need-returns
 unfolding found
-returns c = (λ ms. refl, refl)
+returns c = (λ ms. refl, refl, refl)
 
 pub move-to-spec : {M : Type 1} → statement M
 move-to-spec = tie.close (tie.spec returns)

@@ -3,11 +3,12 @@
 use Rattle.document.proofs.none_found.Statement.{statement}
 use Rattle.document.proofs.none_found.Tie as tie
 use mathlib.Core.Path.{refl}
-use Rattle.document.specs.DocumentCode.{entriesFrom, found}
+use Rattle.document.specs.DocumentCode.{found}
+use Rattle.document.specs.EntriesCode.{entriesFrom}
 
 returns : tie.Need-returns
 unfolding found entriesFrom
-returns c = (λ ms. refl, refl)
+returns c = (λ ms. refl, refl, refl)
 
 pub none-found-spec : {M : Type 1} → statement M
 none-found-spec = tie.close (tie.spec returns)

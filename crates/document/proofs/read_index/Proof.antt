@@ -5,6 +5,7 @@ use Rattle.document.proofs.read_index.Statement.{statement}
 use Rattle.document.proofs.read_index.Tie as tie
 use mathlib.Core.Path.{subst}
 use Rattle.shape.specs.Shape.{Shaped}
+use Rattle.document.specs.DocumentCode.{refusedIndex, indexed}
 use Rattle.document.proofs.Laws.{indexes-whole, indexes-long, indexes-broken}
 
 read-shape-requires : tie.Need-read-shape-requires
@@ -26,16 +27,16 @@ enum-told-2 : tie.Need-enum-told-2
 enum-told-2 c = search needs
 
 index-whole-requires : tie.Need-index-whole-requires
-index-whole-requires c κs = subst (Shaped (c .before .before .before .before .args .file .now)) (c .enum-told2 .given .1) (c .before .before .read-shape .ensures)
+index-whole-requires c κs = (subst (Shaped (c .before .before .before .before .before .args .file .now)) (c .before .enum-told2 .given .1) (c .before .before .before .read-shape .ensures), search needs)
 
 returns : tie.Need-returns
-returns c = indexes-long (c .before .before .before .before .before .args .file .now) _ (subst (Shaped (c .before .before .before .before .before .args .file .now)) (c .before .enum-told .given .1) (c .before .before .before .read-shape .ensures)) (c .refuse .ensures)
+returns c = record { index = refusedIndex 1 32768; indexes = indexes-long (c .before .before .before .before .before .args .file .now) (subst (Shaped (c .before .before .before .before .before .args .file .now)) (c .before .enum-told .given .1) (c .before .before .before .read-shape .ensures)); holds = c .refuse .ensures _ }
 
 returns-2 : tie.Need-returns-2
-returns-2 c = indexes-broken (c .before .before .before .before .before .before .args .file .now) _ _ (subst (Shaped (c .before .before .before .before .before .before .args .file .now)) (c .before .before .p .given .1) (c .before .before .before .before .read-shape .ensures)) (c .refuse2 .ensures)
+returns-2 c = record { index = refusedIndex 2 _; indexes = indexes-broken (c .before .before .before .before .before .before .args .file .now) _ (subst (Shaped (c .before .before .before .before .before .before .args .file .now)) (c .before .before .p .given .1) (c .before .before .before .before .read-shape .ensures)); holds = c .refuse2 .ensures _ }
 
 returns-3 : tie.Need-returns-3
-returns-3 c = indexes-whole (c .before .before .before .before .before .args .file .now) _ (subst (Shaped (c .before .before .before .before .before .args .file .now)) (c .before .enum-told2 .given .1) (c .before .before .before .read-shape .ensures)) (c .index-whole .ensures)
+returns-3 c = record { index = indexed (c .before .before .before .before .before .before .args .file .now); indexes = indexes-whole (c .before .before .before .before .before .before .args .file .now) (subst (Shaped (c .before .before .before .before .before .before .args .file .now)) (c .before .before .enum-told2 .given .1) (c .before .before .before .before .read-shape .ensures)); holds = c .index-whole .ensures }
 
 pub read-index-spec : {M : Type 1} → statement M
 read-index-spec =

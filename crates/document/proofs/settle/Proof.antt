@@ -3,22 +3,21 @@
 use borrow.Author.Needs.{needs}
 use Rattle.document.proofs.settle.Statement.{statement}
 use Rattle.document.proofs.settle.Tie as tie
-use mathlib.Core.Path.{_∙_}
-use Rattle.document.specs.DocumentCode.{indexAt, found}
+use mathlib.Core.Path.{_≡_, refl, sym, ap, _∙_}
+use Rattle.document.specs.EntriesCode.{Entry, written}
+use Rattle.document.specs.DocumentCode.{indexAt, found, Holds}
+use Rattle.document.proofs.Entries.{sound-entries}
 
 refuse-requires : tie.Need-refuse-requires
 refuse-requires c κs = search needs
 
 returns : tie.Need-returns
 unfolding indexAt found
-returns c = c .refuse .ensures ∙ rw (c .before .if1 .taken)
-
-entries-of-requires : tie.Need-entries-of-requires
-entries-of-requires c κs = search needs
+returns c = λ ms s. rw (c .before .if1 .taken) (c .refuse .ensures ms)
 
 returns-2 : tie.Need-returns-2
 unfolding indexAt found
-returns-2 c = rw (c .before .if1 .left, c .entries-of .ensures)
+returns-2 c = λ ms s. rw (c .if1 .left, sound-entries _ ms s) (record { fault = refl; words = s .words; long = s .long; formed = s .formed })
 
 pub settle-spec : {M : Type 1} → statement M
-settle-spec = tie.close (tie.spec refuse-requires returns entries-of-requires returns-2)
+settle-spec = tie.close (tie.spec refuse-requires returns returns-2)

@@ -3,8 +3,6 @@
 use borrow.Author.Needs.{needs}
 use Rattle.lists.proofs.is_flagged.Statement.{statement}
 use Rattle.lists.proofs.is_flagged.Tie as tie
-use Rattle.lists.proofs.is_flagged.Reads as reads
-use Rattle.lists.proofs.is_flagged.Lts as lts
 use mathlib.Core.Path.{sym}
 use mathlib.Core.Bool.{false}
 use lib.ListN.{List·getD-eq-default}

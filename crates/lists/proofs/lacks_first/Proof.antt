@@ -2,9 +2,6 @@
 -- `lists::lacks_first` meets its contract. The loop's invariant: what the first n lack is what those from `at` on lack.
 use Rattle.lists.proofs.lacks_first.Statement.{statement}
 use Rattle.lists.proofs.lacks_first.Tie as tie
-use Rattle.lists.proofs.lacks_first.Reads as reads
-use Rattle.lists.proofs.lacks_first.Lts as lts
-use Rattle.lists.proofs.is_flagged.Reads as is-flagged-reads
 use Prim.Native.Nat.{_-_}
 use mathlib.Core.Path.{_≡_}
 use native.Mathlib.Omega.{arith}

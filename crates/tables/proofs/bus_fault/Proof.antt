@@ -3,11 +3,6 @@
 use borrow.Author.Needs.{needs}
 use Rattle.tables.proofs.bus_fault.Statement.{statement}
 use Rattle.tables.proofs.bus_fault.Tie as tie
-use Rattle.tables.proofs.bus_fault.Reads as reads
-use Rattle.tables.proofs.bus_fault.Lts as lts
-use Rattle.lists.proofs.lacks_first.Reads as lacks-first-reads
-use Rattle.tables.proofs.first_bus.Reads as first-bus-reads
-use Rattle.tables.proofs.no_refusal.Reads as no-refusal-reads
 use mathlib.Core.Path.{refl, sym, _∙_}
 use Rattle.tables.specs.TablesCode.{busFault}
 

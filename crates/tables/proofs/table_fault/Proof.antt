@@ -3,7 +3,7 @@
 use borrow.Author.Needs.{needs}
 use Rattle.tables.proofs.table_fault.Statement.{statement}
 use Rattle.tables.proofs.table_fault.Tie as tie
-use mathlib.Core.Path.{_∙_}
+use mathlib.Core.Path.{refl, sym, _∙_}
 use Rattle.tables.specs.TablesCode.{tableFault}
 use Rattle.tables.proofs.Turns.{or-first, or-second}
 

@@ -3,10 +3,6 @@
 use borrow.Author.Needs.{needs}
 use Rattle.xml.proofs.after_lt.Statement.{statement}
 use Rattle.xml.proofs.after_lt.Tie as tie
-use Rattle.xml.proofs.after_lt.Reads as reads
-use Rattle.xml.proofs.after_lt.Lts as lts
-use Rattle.text.proofs.letters.is_start.Reads as is-start-reads
-use Rattle.xml.proofs.comments.comment.Reads as comment-reads
 use Prim.Native.Nat.{_+_}
 use Rattle.shape.proofs.Elements.{lt-comment, lt-close, lt-dead}
 use Rattle.shape.proofs.Run.{at-end}

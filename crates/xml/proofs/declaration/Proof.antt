@@ -3,10 +3,6 @@
 use borrow.Author.Needs.{needs}
 use Rattle.xml.proofs.declaration.Statement.{statement}
 use Rattle.xml.proofs.declaration.Tie as tie
-use Rattle.xml.proofs.declaration.Reads as reads
-use Rattle.xml.proofs.declaration.Lts as lts
-use Rattle.xml.proofs.declared_text.Reads as declared-text-reads
-use Rattle.xml.proofs.expect.Reads as expect-reads
 use Rattle.shape.proofs.Files.{decl-x, decl-m}
 use Rattle.shape.proofs.Steps.{reads-then, reads-bad}
 

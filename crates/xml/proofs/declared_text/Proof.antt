@@ -3,10 +3,6 @@
 use borrow.Author.Needs.{needs}
 use Rattle.xml.proofs.declared_text.Statement.{statement}
 use Rattle.xml.proofs.declared_text.Tie as tie
-use Rattle.xml.proofs.declared_text.Reads as reads
-use Rattle.xml.proofs.declared_text.Lts as lts
-use Rattle.text.proofs.runs.decl_end.Reads as decl-end-reads
-use Rattle.xml.proofs.expect.Reads as expect-reads
 use Rattle.shape.proofs.Files.{decl-l, decl-gt, decl-text}
 use Rattle.shape.proofs.Steps.{reads-then, reads-bad}
 

@@ -3,8 +3,6 @@
 use borrow.Author.Needs.{needs}
 use Rattle.xml.proofs.expect.Statement.{statement}
 use Rattle.xml.proofs.expect.Tie as tie
-use Rattle.xml.proofs.expect.Reads as reads
-use Rattle.xml.proofs.expect.Lts as lts
 use Rattle.shape.proofs.Steps.{expects-at, expects-other, expects-end}
 
 shared-slice-read-found : tie.Need-shared-slice-read-found

@@ -3,11 +3,6 @@
 use borrow.Author.Needs.{needs}
 use Rattle.xml.proofs.markup.Statement.{statement}
 use Rattle.xml.proofs.markup.Tie as tie
-use Rattle.xml.proofs.markup.Reads as reads
-use Rattle.xml.proofs.markup.Lts as lts
-use Rattle.text.proofs.runs.text_end.Reads as text-end-reads
-use Rattle.xml.proofs.after_lt.Reads as after-lt-reads
-use Rattle.xml.proofs.expect.Reads as expect-reads
 use Rattle.shape.proofs.Elements.{text-reads, mark-then}
 use Rattle.shape.proofs.Steps.{then-bad}
 use Rattle.shape.specs.ReadsCode.{inLt}

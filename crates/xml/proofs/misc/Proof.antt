@@ -2,10 +2,6 @@
 -- `xml::misc` meets its contract. The loop's invariant: from here the file goes on as from where it began.
 use Rattle.xml.proofs.misc.Statement.{statement}
 use Rattle.xml.proofs.misc.Tie as tie
-use Rattle.xml.proofs.misc.Reads as reads
-use Rattle.xml.proofs.misc.Lts as lts
-use Rattle.text.proofs.runs.blanks_end.Reads as blanks-end-reads
-use Rattle.xml.proofs.comments.comment.Reads as comment-reads
 use Prim.Native.Nat.{_-_, _+_}
 use Rattle.text.proofs.Spans.{low-of, stop-of}
 use Rattle.text.specs.Kinds.{isBlank}

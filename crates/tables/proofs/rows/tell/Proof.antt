@@ -3,7 +3,7 @@
 use borrow.Author.Needs.{needs}
 use Rattle.tables.proofs.rows.tell.Statement.{statement}
 use Rattle.tables.proofs.rows.tell.Tie as tie
-use mathlib.Core.Path.{sym}
+use mathlib.Core.Path.{sym, _∙_}
 use Rattle.tables.proofs.RowsParts.{told-parts}
 
 tell-head-requires : tie.Need-tell-head-requires

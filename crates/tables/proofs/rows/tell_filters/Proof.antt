@@ -2,116 +2,112 @@
 -- `tables::rows::tell_filters` meets its contract. The loop's invariant: what the rest of the entries adds is the whole.
 use Rattle.tables.proofs.rows.tell_filters.Statement.{statement}
 use Rattle.tables.proofs.rows.tell_filters.Tie as tie
-use Rattle.tables.proofs.rows.tell_filters.Reads as reads
-use Rattle.tables.proofs.rows.tell_filters.Lts as lts
-use Rattle.element.proofs.filters.filter_at.Reads as filter-at-reads
-use Rattle.lists.proofs.least.Reads as least-reads
-use Rattle.tables.proofs.rows.channel_at.Reads as channel-at-reads
-use Rattle.tables.proofs.rows.no_filters.Reads as no-filters-reads
-use Rattle.tables.proofs.rows.with_channel.Reads as with-channel-reads
 use Prim.Native.Nat.{_-_}
-use mathlib.Core.Path.{_≡_, sym, _∙_}
+use mathlib.Core.Path.{sym, _∙_}
 use native.Mathlib.Nat.{lt-of-lt-of-le}
 use lib.Dec.{lit<, lit≤}
 use borrow.Author.Needs.{scaled-fits}
-use lib.ListN.{length, length-map}
+use lib.ListN.{length}
 use Rattle.tables.specs.RowsCode.{noFilters, tellFilter}
-use Rattle.tables.proofs.RowsTurns.{Turn, less, one-more-fits, entry-there, entry-fits, next-fits, turn-none, turn-more, turn-all}
+use Rattle.text.specs.Texts.{bytes}
+use Rattle.schema.specs.SchemaCode.{names, nameIn}
+use Rattle.tables.proofs.RowsTurns.{Turn, less, one-more-fits, turn-none, turn-more, turn-all}
 use Rattle.tables.proofs.RowsLaws.{between, last-there, filter-told, filter-full, channel-told, channel-none, filter-none}
 
 abbrev Inv-loop : tie.InvT-loop
-Inv-loop file index n t₀ i₀ t i = Turn (tellFilter file) index n noFilters t i
+Inv-loop words t₀ at₀ t at = Turn tellFilter words noFilters t at
 
 abbrev μ-loop : tie.MeasureT-loop
-μ-loop file index n t₀ i₀ t i = n - i
-
-least-requires : tie.Need-least-requires Inv-loop μ-loop
-least-requires c κs = tt
+μ-loop words t₀ at₀ t at = length words - at
 
 no-filters-requires : tie.Need-no-filters-requires Inv-loop μ-loop
 no-filters-requires c κs = tt
 
 loop-holds : tie.Need-loop-holds Inv-loop μ-loop
-loop-holds c = let l : length (c .before .before .before .args .t2 .entries) ≡ 382 = sym (length-map (c .before .before .before .args .t2 .entries) _) ∙ c .before .before .before .good .1 .0 .1 .1 .1 .1 .0 .1 .0 .1 in
-    turn-none _ _ _ _ _ l (c .before .least .ensures) (c .no-filters .ensures)
+loop-holds c = turn-none tellFilter (c .before .before .args .words .now) noFilters _ (c .no-filters .ensures)
 
-mul-e : tie.Need-mul-e Inv-loop μ-loop
-mul-e c = entry-fits _ _ _ _ _ _ (c .before .loop .inv) (c .loop-test .taken)
+kind-at-requires : tie.Need-kind-at-requires Inv-loop μ-loop
+kind-at-requires c κs = tt
 
-element-copy-out-e : tie.Need-element-copy-out-e Inv-loop μ-loop
-element-copy-out-e c = entry-there _ _ _ _ _ _ (c .before .loop .inv) (c .loop-test .taken)
+next-requires : tie.Need-next-requires Inv-loop μ-loop
+next-requires c κs = c .before .loop-test .taken
 
-add-i : tie.Need-add-i Inv-loop μ-loop
-add-i c = next-fits _ _ _ _ _ _ (c .before .before .loop .inv) (c .before .loop-test .taken)
+is-in-requires : tie.Need-is-in-requires Inv-loop μ-loop
+is-in-requires c κs = tt
 
-filter-at-requires : tie.Need-filter-at-requires Inv-loop μ-loop
-filter-at-requires c κs = tt
+filter-from-requires : tie.Need-filter-from-requires Inv-loop μ-loop
+filter-from-requires c κs = tt
 
-mul-t23 : tie.Need-mul-t23 Inv-loop μ-loop
-mul-t23 c = scaled-fits _ 32 28 (c .before .if1 .taken) (lit< tt)
+mul-t17 : tie.Need-mul-t17 Inv-loop μ-loop
+mul-t17 c = scaled-fits _ 32 28 (c .before .if2 .taken) (lit< tt)
 
 element-set-from-t : tie.Need-element-set-from-t Inv-loop μ-loop
-element-set-from-t c = c .before .if1 .taken
+element-set-from-t c = c .before .if2 .taken
 
 add-t : tie.Need-add-t Inv-loop μ-loop
-add-t c = one-more-fits _ (lt-of-lt-of-le (c .before .if1 .taken) (lit≤ tt))
+add-t c = one-more-fits _ (lt-of-lt-of-le (c .before .if2 .taken) (lit≤ tt))
 
 loop-less : tie.Need-loop-less Inv-loop μ-loop
-loop-less c = less _ _ (c .before .before .before .before .loop-test .taken)
+loop-less c = less (c .before .before .before .before .before .before .before .before .before .before .args .words .now) _ _ (c .before .before .before .before .before .before .loop-test .taken) (c .before .before .before .before .next .ensures)
 
 loop-again : tie.Need-loop-again Inv-loop μ-loop
-loop-again c = turn-more _ _ _ _ _ _ _ (c .before .before .before .before .before .loop .inv) (c .before .before .before .before .loop-test .taken) (filter-told _ _ _ _ (c .before .before .match .keys1) (c .filter-at .ensures) (c .before .if1 .taken))
+unfolding names nameIn bytes
+loop-again c = turn-more tellFilter (c .before .before .before .before .before .before .before .before .before .before .args .words .now) noFilters _ _ _ _ (c .before .before .before .before .before .before .before .loop .inv) (c .before .before .before .before .before .before .loop-test .taken) (c .before .before .before .before .next .ensures) (filter-told _ _ (c .before .before .before .before .before .kind-at .ensures) (sym (c .before .before .before .is-in .ensures) ∙ c .before .before .if1 .taken) _ (c .filter-from .ensures) (c .before .if2 .taken))
 
 loop-less-2 : tie.Need-loop-less-2 Inv-loop μ-loop
-loop-less-2 c = less _ _ (c .before .before .before .loop-test .taken)
+loop-less-2 c = less (c .before .before .before .before .before .before .before .before .before .args .words .now) _ _ (c .before .before .before .before .before .loop-test .taken) (c .before .before .before .next .ensures)
 
 loop-again-2 : tie.Need-loop-again-2 Inv-loop μ-loop
-loop-again-2 c = turn-more _ _ _ _ _ _ _ (c .before .before .before .before .loop .inv) (c .before .before .before .loop-test .taken) (filter-full _ _ _ (c .before .match .keys1) (c .if1 .left))
+unfolding names nameIn bytes
+loop-again-2 c = turn-more tellFilter (c .before .before .before .before .before .before .before .before .before .args .words .now) noFilters _ _ _ _ (c .before .before .before .before .before .before .loop .inv) (c .before .before .before .before .before .loop-test .taken) (c .before .before .before .next .ensures) (filter-full _ _ (c .before .before .before .before .kind-at .ensures) (sym (c .before .before .is-in .ensures) ∙ c .before .if1 .taken) (c .if2 .left))
 
-enum-told : tie.Need-enum-told Inv-loop μ-loop
-enum-told c = c .match .keys2
+is-same-requires : tie.Need-is-same-requires Inv-loop μ-loop
+is-same-requires c κs = tt
 
 sub-last : tie.Need-sub-last Inv-loop μ-loop
-sub-last c = between _ 32 (c .if2 .taken) .0
+sub-last c = between _ 32 (c .if4 .taken) .0
 
-channel-at-requires : tie.Need-channel-at-requires Inv-loop μ-loop
-channel-at-requires c κs = tt
+number-at-requires : tie.Need-number-at-requires Inv-loop μ-loop
+number-at-requires c κs = tt
 
 mul-x : tie.Need-mul-x Inv-loop μ-loop
-mul-x c = scaled-fits _ 32 28 (last-there (c .before .before .before .before .before .before .loop .t .count) 32 (c .before .if2 .taken)) (lit< tt)
+mul-x c = scaled-fits _ 32 28 (last-there (c .before .before .before .before .before .before .before .before .before .loop .t .count) 32 (c .before .if4 .taken)) (lit< tt)
 
 element-copy-out-x : tie.Need-element-copy-out-x Inv-loop μ-loop
-element-copy-out-x c = last-there (c .before .before .before .before .before .before .loop .t .count) 32 (c .before .if2 .taken)
+element-copy-out-x c = last-there (c .before .before .before .before .before .before .before .before .before .loop .t .count) 32 (c .before .if4 .taken)
 
 with-channel-requires : tie.Need-with-channel-requires Inv-loop μ-loop
 with-channel-requires c κs = tt
 
 mul-x-2 : tie.Need-mul-x-2 Inv-loop μ-loop
-mul-x-2 c = scaled-fits _ 32 28 (last-there (c .before .before .before .before .before .before .before .before .loop .t .count) 32 (c .before .before .before .if2 .taken)) (lit< tt)
+mul-x-2 c = scaled-fits _ 32 28 (last-there (c .before .before .before .before .before .before .before .before .before .before .before .loop .t .count) 32 (c .before .before .before .if4 .taken)) (lit< tt)
 
 element-set-from-x : tie.Need-element-set-from-x Inv-loop μ-loop
-element-set-from-x c = last-there (c .before .before .before .before .before .before .before .before .loop .t .count) 32 (c .before .before .before .if2 .taken)
+element-set-from-x c = last-there (c .before .before .before .before .before .before .before .before .before .before .before .loop .t .count) 32 (c .before .before .before .if4 .taken)
 
 loop-less-3 : tie.Need-loop-less-3 Inv-loop μ-loop
-loop-less-3 c = less _ _ (c .before .before .before .before .before .before .before .loop-test .taken)
+loop-less-3 c = less (c .before .before .before .before .before .before .before .before .before .before .before .before .before .before .args .words .now) _ _ (c .before .before .before .before .before .before .before .before .before .before .loop-test .taken) (c .before .before .before .before .before .before .before .before .next .ensures)
 
 loop-again-3 : tie.Need-loop-again-3 Inv-loop μ-loop
-loop-again-3 c = turn-more _ _ _ _ _ _ _ (c .before .before .before .before .before .before .before .before .loop .inv) (c .before .before .before .before .before .before .before .loop-test .taken) (channel-told _ _ _ _ _ (c .before .before .before .before .enum-told .given .1) (c .before .before .channel-at .ensures) (c .with-channel .ensures) (c .before .before .before .if2 .taken))
+unfolding names nameIn bytes
+loop-again-3 c = turn-more tellFilter (c .before .before .before .before .before .before .before .before .before .before .before .before .before .before .args .words .now) noFilters _ _ _ _ (c .before .before .before .before .before .before .before .before .before .before .before .loop .inv) (c .before .before .before .before .before .before .before .before .before .before .loop-test .taken) (c .before .before .before .before .before .before .before .before .next .ensures) (channel-told _ _ (c .before .before .before .before .before .before .before .before .before .kind-at .ensures) (sym (c .before .before .before .before .before .before .before .is-in .ensures) ∙ c .before .before .before .before .before .before .if1 .left) _ _ (sym (c .before .before .before .before .before .is-same .ensures) ∙ c .before .before .before .before .if3 .taken) (c .before .before .number-at .ensures) (c .with-channel .ensures) (c .before .before .before .if4 .taken))
 
 loop-less-4 : tie.Need-loop-less-4 Inv-loop μ-loop
-loop-less-4 c = less _ _ (c .before .before .before .before .loop-test .taken)
+loop-less-4 c = less (c .before .before .before .before .before .before .before .before .before .before .before .args .words .now) _ _ (c .before .before .before .before .before .before .before .loop-test .taken) (c .before .before .before .before .before .next .ensures)
 
 loop-again-4 : tie.Need-loop-again-4 Inv-loop μ-loop
-loop-again-4 c = turn-more _ _ _ _ _ _ _ (c .before .before .before .before .before .loop .inv) (c .before .before .before .before .loop-test .taken) (channel-none _ _ _ (c .before .enum-told .given .1) (c .if2 .left))
+unfolding names nameIn bytes
+loop-again-4 c = turn-more tellFilter (c .before .before .before .before .before .before .before .before .before .before .before .args .words .now) noFilters _ _ _ _ (c .before .before .before .before .before .before .before .before .loop .inv) (c .before .before .before .before .before .before .before .loop-test .taken) (c .before .before .before .before .before .next .ensures) (channel-none _ _ (c .before .before .before .before .before .before .kind-at .ensures) (sym (c .before .before .before .before .is-in .ensures) ∙ c .before .before .before .if1 .left) (sym (c .before .before .is-same .ensures) ∙ c .before .if3 .taken) (c .if4 .left))
 
 loop-less-5 : tie.Need-loop-less-5 Inv-loop μ-loop
-loop-less-5 c = less _ _ (c .before .before .loop-test .taken)
+loop-less-5 c = less (c .before .before .before .before .before .before .before .before .before .before .args .words .now) _ _ (c .before .before .before .before .before .before .loop-test .taken) (c .before .before .before .before .next .ensures)
 
 loop-again-5 : tie.Need-loop-again-5 Inv-loop μ-loop
-loop-again-5 c = turn-more _ _ _ _ _ _ _ (c .before .before .before .loop .inv) (c .before .before .loop-test .taken) (filter-none _ _ _ (c .match .keys3))
+unfolding names nameIn bytes
+loop-again-5 c = turn-more tellFilter (c .before .before .before .before .before .before .before .before .before .before .args .words .now) noFilters _ _ _ _ (c .before .before .before .before .before .before .before .loop .inv) (c .before .before .before .before .before .before .loop-test .taken) (c .before .before .before .before .next .ensures) (filter-none _ _ (c .before .before .before .before .before .kind-at .ensures) (sym (c .before .before .before .is-in .ensures) ∙ c .before .before .if1 .left) (sym (c .before .is-same .ensures) ∙ c .if3 .left))
 
 returns : tie.Need-returns Inv-loop μ-loop
-returns c = turn-all _ _ _ _ _ _ (c .before .loop .inv) (c .loop-test .left)
+returns c = turn-all tellFilter (c .before .before .before .before .args .words .now) noFilters _ _ (c .before .loop .inv) (c .loop-test .left)
 
 pub tell-filters-spec : {M : Type 1} → statement M
 tell-filters-spec =
@@ -119,23 +115,22 @@ tell-filters-spec =
     (tie.spec
     Inv-loop
     μ-loop
-    least-requires
     no-filters-requires
     loop-holds
-    mul-e
-    element-copy-out-e
-    add-i
-    filter-at-requires
-    mul-t23
+    kind-at-requires
+    next-requires
+    is-in-requires
+    filter-from-requires
+    mul-t17
     element-set-from-t
     add-t
     loop-less
     loop-again
     loop-less-2
     loop-again-2
-    enum-told
+    is-same-requires
     sub-last
-    channel-at-requires
+    number-at-requires
     mul-x
     element-copy-out-x
     with-channel-requires

@@ -2,90 +2,86 @@
 -- `tables::rows::tell_names` meets its contract. The loop's invariant: what the rest of the entries adds is the whole.
 use Rattle.tables.proofs.rows.tell_names.Statement.{statement}
 use Rattle.tables.proofs.rows.tell_names.Tie as tie
-use Rattle.tables.proofs.rows.tell_names.Reads as reads
-use Rattle.tables.proofs.rows.tell_names.Lts as lts
-use Rattle.lists.proofs.least.Reads as least-reads
-use Rattle.tables.proofs.rows.is_trigger.Reads as is-trigger-reads
-use Rattle.tables.proofs.rows.name_at.Reads as name-at-reads
 use Prim.Native.Nat.{_-_}
-use mathlib.Core.Path.{_≡_, refl, sym, _∙_}
+use mathlib.Core.Path.{refl, sym, _∙_}
 use native.Mathlib.Nat.{lt-of-lt-of-le}
 use lib.Dec.{lit<, lit≤}
 use borrow.Author.Needs.{scaled-fits}
-use lib.ListN.{length, length-map}
+use lib.ListN.{length}
 use Rattle.tables.specs.RowsCode.{noNames, tellName}
-use Rattle.tables.proofs.RowsTurns.{Turn, less, one-more-fits, entry-there, entry-fits, next-fits, turn-none, turn-more, turn-all}
+use Rattle.text.specs.Texts.{bytes}
+use Rattle.schema.specs.SchemaCode.{names, nameIn}
+use Rattle.tables.proofs.RowsTurns.{Turn, less, one-more-fits, turn-none, turn-more, turn-all}
 use Rattle.tables.proofs.RowsLaws.{name-told, name-full, name-none}
 
 abbrev Inv-loop : tie.InvT-loop
-Inv-loop file index n t₀ i₀ t i = Turn (tellName file) index n noNames t i
+Inv-loop file words t₀ at₀ t at = Turn (tellName file) words noNames t at
 
 abbrev μ-loop : tie.MeasureT-loop
-μ-loop file index n t₀ i₀ t i = n - i
-
-least-requires : tie.Need-least-requires Inv-loop μ-loop
-least-requires c κs = tt
+μ-loop file words t₀ at₀ t at = length words - at
 
 loop-holds : tie.Need-loop-holds Inv-loop μ-loop
-loop-holds c = let l : length (c .before .before .args .t2 .entries) ≡ 382 = sym (length-map (c .before .before .args .t2 .entries) _) ∙ c .before .before .good .1 .0 .1 .1 .1 .1 .0 .1 .0 .1 in
-    turn-none _ _ _ _ _ l (c .least .ensures) refl
+loop-holds c = turn-none (tellName (c .before .before .args .file .now)) (c .before .before .args .words .now) noNames _ refl
 
-mul-e : tie.Need-mul-e Inv-loop μ-loop
-mul-e c = entry-fits _ _ _ _ _ _ (c .before .loop .inv) (c .loop-test .taken)
+kind-at-requires : tie.Need-kind-at-requires Inv-loop μ-loop
+kind-at-requires c κs = tt
 
-element-copy-out-e : tie.Need-element-copy-out-e Inv-loop μ-loop
-element-copy-out-e c = entry-there _ _ _ _ _ _ (c .before .loop .inv) (c .loop-test .taken)
+next-requires : tie.Need-next-requires Inv-loop μ-loop
+next-requires c κs = c .before .loop-test .taken
 
-add-i : tie.Need-add-i Inv-loop μ-loop
-add-i c = next-fits _ _ _ _ _ _ (c .before .before .loop .inv) (c .before .loop-test .taken)
+is-in-requires : tie.Need-is-in-requires Inv-loop μ-loop
+is-in-requires c κs = tt
 
-is-trigger-requires : tie.Need-is-trigger-requires Inv-loop μ-loop
-is-trigger-requires c κs = tt
+place-at-requires : tie.Need-place-at-requires Inv-loop μ-loop
+place-at-requires c κs = tt
 
 name-at-requires : tie.Need-name-at-requires Inv-loop μ-loop
 name-at-requires c κs = tt
 
 mul-t : tie.Need-mul-t Inv-loop μ-loop
-mul-t c = scaled-fits _ 32 8 (c .before .if2 .taken) (lit< tt)
+mul-t c = scaled-fits _ 32 8 (c .before .before .if2 .taken) (lit< tt)
 
 element-write-t : tie.Need-element-write-t Inv-loop μ-loop
-element-write-t c = c .before .if2 .taken
+element-write-t c = c .before .before .if2 .taken
 
 mul-t-2 : tie.Need-mul-t-2 Inv-loop μ-loop
-mul-t-2 c = scaled-fits _ 32 8 (c .before .if2 .taken) (lit< tt)
+mul-t-2 c = scaled-fits _ 32 8 (c .before .before .if2 .taken) (lit< tt)
 
 element-write-t-2 : tie.Need-element-write-t-2 Inv-loop μ-loop
-element-write-t-2 c = c .before .if2 .taken
+element-write-t-2 c = c .before .before .if2 .taken
 
 mul-t-3 : tie.Need-mul-t-3 Inv-loop μ-loop
-mul-t-3 c = scaled-fits _ 32 8 (c .before .if2 .taken) (lit< tt)
+mul-t-3 c = scaled-fits _ 32 8 (c .before .before .if2 .taken) (lit< tt)
 
 element-write-t-3 : tie.Need-element-write-t-3 Inv-loop μ-loop
-element-write-t-3 c = c .before .if2 .taken
+element-write-t-3 c = c .before .before .if2 .taken
 
 add-t : tie.Need-add-t Inv-loop μ-loop
-add-t c = one-more-fits _ (lt-of-lt-of-le (c .before .if2 .taken) (lit≤ tt))
+add-t c = one-more-fits _ (lt-of-lt-of-le (c .before .before .if2 .taken) (lit≤ tt))
 
 loop-less : tie.Need-loop-less Inv-loop μ-loop
-loop-less c = less _ _ (c .before .before .before .before .before .loop-test .taken)
+loop-less c = less (c .before .before .before .before .before .before .before .before .before .before .before .args .words .now) _ _ (c .before .before .before .before .before .before .before .loop-test .taken) (c .before .before .before .before .before .next .ensures)
 
 loop-again : tie.Need-loop-again Inv-loop μ-loop
-loop-again c = turn-more _ _ _ _ _ _ _ (c .before .before .before .before .before .before .loop .inv) (c .before .before .before .before .before .loop-test .taken) (name-told _ _ _ _ (sym (c .before .before .before .is-trigger .ensures) ∙ c .before .before .if1 .taken) (c .name-at .ensures) (c .before .if2 .taken))
+unfolding names nameIn bytes
+loop-again c = turn-more (tellName (c .before .before .before .before .before .before .before .before .before .before .before .args .file .now)) (c .before .before .before .before .before .before .before .before .before .before .before .args .words .now) noNames _ _ _ _ (c .before .before .before .before .before .before .before .before .loop .inv) (c .before .before .before .before .before .before .before .loop-test .taken) (c .before .before .before .before .before .next .ensures) (name-told _ _ _ (c .before .before .before .before .before .before .kind-at .ensures) _ _ (sym (c .before .before .before .before .is-in .ensures) ∙ c .before .before .before .if1 .taken) (c .before .place-at .ensures) (c .name-at .ensures) (c .before .before .if2 .taken))
 
 loop-less-2 : tie.Need-loop-less-2 Inv-loop μ-loop
-loop-less-2 c = less _ _ (c .before .before .before .before .loop-test .taken)
+loop-less-2 c = less (c .before .before .before .before .before .before .before .before .before .args .words .now) _ _ (c .before .before .before .before .before .loop-test .taken) (c .before .before .before .next .ensures)
 
 loop-again-2 : tie.Need-loop-again-2 Inv-loop μ-loop
-loop-again-2 c = turn-more _ _ _ _ _ _ _ (c .before .before .before .before .before .loop .inv) (c .before .before .before .before .loop-test .taken) (name-full _ _ _ (sym (c .before .before .is-trigger .ensures) ∙ c .before .if1 .taken) (c .if2 .left))
+unfolding names nameIn bytes
+loop-again-2 c = turn-more (tellName (c .before .before .before .before .before .before .before .before .before .args .file .now)) (c .before .before .before .before .before .before .before .before .before .args .words .now) noNames _ _ _ _ (c .before .before .before .before .before .before .loop .inv) (c .before .before .before .before .before .loop-test .taken) (c .before .before .before .next .ensures) (name-full _ _ _ (c .before .before .before .before .kind-at .ensures) (sym (c .before .before .is-in .ensures) ∙ c .before .if1 .taken) (c .if2 .left))
 
 loop-less-3 : tie.Need-loop-less-3 Inv-loop μ-loop
-loop-less-3 c = less _ _ (c .before .before .before .loop-test .taken)
+loop-less-3 c = less (c .before .before .before .before .before .before .before .before .args .words .now) _ _ (c .before .before .before .before .loop-test .taken) (c .before .before .next .ensures)
 
 loop-again-3 : tie.Need-loop-again-3 Inv-loop μ-loop
-loop-again-3 c = turn-more _ _ _ _ _ _ _ (c .before .before .before .before .loop .inv) (c .before .before .before .loop-test .taken) (name-none _ _ _ (sym (c .before .is-trigger .ensures) ∙ c .if1 .left))
+unfolding names nameIn bytes
+loop-again-3 c = turn-more (tellName (c .before .before .before .before .before .before .before .before .args .file .now)) (c .before .before .before .before .before .before .before .before .args .words .now) noNames _ _ _ _ (c .before .before .before .before .before .loop .inv) (c .before .before .before .before .loop-test .taken) (c .before .before .next .ensures) (name-none _ _ _ (c .before .before .before .kind-at .ensures) (sym (c .before .is-in .ensures) ∙ c .if1 .left))
 
 returns : tie.Need-returns Inv-loop μ-loop
-returns c = turn-all _ _ _ _ _ _ (c .before .loop .inv) (c .loop-test .left)
+returns c = turn-all (tellName (c .before .before .before .before .args .file .now)) (c .before .before .before .before .args .words .now) noNames _ _ (c .before .loop .inv) (c .loop-test .left)
 
 pub tell-names-spec : {M : Type 1} → statement M
 tell-names-spec =
@@ -93,12 +89,11 @@ tell-names-spec =
     (tie.spec
     Inv-loop
     μ-loop
-    least-requires
     loop-holds
-    mul-e
-    element-copy-out-e
-    add-i
-    is-trigger-requires
+    kind-at-requires
+    next-requires
+    is-in-requires
+    place-at-requires
     name-at-requires
     mul-t
     element-write-t

@@ -3,10 +3,6 @@
 use borrow.Author.Needs.{needs}
 use Rattle.text.proofs.letters.is_name.Statement.{statement}
 use Rattle.text.proofs.letters.is_name.Tie as tie
-use Rattle.text.proofs.letters.is_name.Reads as reads
-use Rattle.text.proofs.letters.is_name.Lts as lts
-use Rattle.text.proofs.letters.is_digit.Reads as is-digit-reads
-use Rattle.text.proofs.letters.is_letter.Reads as is-letter-reads
 use Rattle.text.proofs.Chains.{or-3-first, or-3-second, or-3-third}
 use Rattle.text.specs.Kinds.{isName, isStart}
 

@@ -3,9 +3,6 @@
 use borrow.Author.Needs.{needs}
 use Rattle.text.proofs.letters.is_start.Statement.{statement}
 use Rattle.text.proofs.letters.is_start.Tie as tie
-use Rattle.text.proofs.letters.is_start.Reads as reads
-use Rattle.text.proofs.letters.is_start.Lts as lts
-use Rattle.text.proofs.letters.is_letter.Reads as is-letter-reads
 use Rattle.text.proofs.Chains.{or-first, or-second}
 use Rattle.text.specs.Kinds.{isStart}
 

@@ -2,9 +2,6 @@
 -- `text::runs::blocks_end` meets its contract. The loop's invariant: from here the span ends where it ends from i.
 use Rattle.text.proofs.runs.blocks_end.Statement.{statement}
 use Rattle.text.proofs.runs.blocks_end.Tie as tie
-use Rattle.text.proofs.runs.blocks_end.Reads as reads
-use Rattle.text.proofs.runs.blocks_end.Lts as lts
-use Rattle.text.proofs.runs.is_block.Reads as is-block-reads
 use Rattle.text.proofs.Spans.{span-all}
 use Rattle.text.specs.SpansCode.{spanAt, isPlain}
 use lib.ListN.{length, drop}

@@ -3,9 +3,6 @@
 use borrow.Author.Needs.{needs}
 use Rattle.text.proofs.runs.is_block.Statement.{statement}
 use Rattle.text.proofs.runs.is_block.Tie as tie
-use Rattle.text.proofs.runs.is_block.Reads as reads
-use Rattle.text.proofs.runs.is_block.Lts as lts
-use Rattle.text.proofs.runs.is_plain_four.Reads as is-plain-four-reads
 use Rattle.text.specs.SpansCode.{isPlain}
 use Rattle.text.proofs.Spans.{all-more}
 

@@ -2,8 +2,6 @@
 -- `text::runs::is_plain` meets its contract.
 use Rattle.text.proofs.runs.is_plain.Statement.{statement}
 use Rattle.text.proofs.runs.is_plain.Tie as tie
-use Rattle.text.proofs.runs.is_plain.Reads as reads
-use Rattle.text.proofs.runs.is_plain.Lts as lts
 use native.Mathlib.Omega.{arith}
 use Rattle.text.proofs.Chains.{plain-flat}
 

@@ -3,9 +3,6 @@
 use borrow.Author.Needs.{needs}
 use Rattle.text.proofs.runs.is_plain_four.Statement.{statement}
 use Rattle.text.proofs.runs.is_plain_four.Tie as tie
-use Rattle.text.proofs.runs.is_plain_four.Reads as reads
-use Rattle.text.proofs.runs.is_plain_four.Lts as lts
-use Rattle.text.proofs.runs.is_plain.Reads as is-plain-reads
 use native.Mathlib.Nat.{add-zero}
 use Rattle.text.specs.SpansCode.{allAt}
 

@@ -2,10 +2,6 @@
 -- `text::runs::plain_end` meets its contract. The loop's invariant: from here the span ends where it ends from i.
 use Rattle.text.proofs.runs.plain_end.Statement.{statement}
 use Rattle.text.proofs.runs.plain_end.Tie as tie
-use Rattle.text.proofs.runs.plain_end.Reads as reads
-use Rattle.text.proofs.runs.plain_end.Lts as lts
-use Rattle.text.proofs.letters.is_any.Reads as is-any-reads
-use Rattle.text.proofs.runs.blocks_end.Reads as blocks-end-reads
 use Rattle.text.proofs.Spans.{span-more, span-here, span-end}
 use Rattle.text.specs.SpansCode.{spanAt, isPlain}
 use lib.ListN.{length, drop}

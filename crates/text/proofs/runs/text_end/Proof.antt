@@ -2,10 +2,6 @@
 -- `text::runs::text_end` meets its contract. The loop's invariant: from here the span ends where it ends from i.
 use Rattle.text.proofs.runs.text_end.Statement.{statement}
 use Rattle.text.proofs.runs.text_end.Tie as tie
-use Rattle.text.proofs.runs.text_end.Reads as reads
-use Rattle.text.proofs.runs.text_end.Lts as lts
-use Rattle.text.proofs.runs.blanks_end.Reads as blanks-end-reads
-use Rattle.text.proofs.runs.is_text.Reads as is-text-reads
 use Rattle.text.proofs.Spans.{span-more, span-here, span-end, wider-of}
 use Rattle.text.proofs.Chains.{blank-text}
 use Rattle.text.specs.Kinds.{isBlank, isText}

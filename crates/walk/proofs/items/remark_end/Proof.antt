@@ -2,10 +2,6 @@
 -- `walk::items::remark_end` meets its contract. The loop's invariant: from here the comment ends where it ends from i.
 use Rattle.walk.proofs.items.remark_end.Statement.{statement}
 use Rattle.walk.proofs.items.remark_end.Tie as tie
-use Rattle.walk.proofs.items.remark_end.Reads as reads
-use Rattle.walk.proofs.items.remark_end.Lts as lts
-use Rattle.text.proofs.runs.plain_end.Reads as plain-end-reads
-use Rattle.walk.proofs.items.closes.Reads as closes-reads
 use Prim.Native.Nat.{_-_, _+_}
 use mathlib.Core.Path.{_≡_, refl, sym, _∙_}
 use native.Mathlib.Omega.{arith}

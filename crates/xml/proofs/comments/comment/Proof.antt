@@ -3,10 +3,6 @@
 use borrow.Author.Needs.{needs}
 use Rattle.xml.proofs.comments.comment.Statement.{statement}
 use Rattle.xml.proofs.comments.comment.Tie as tie
-use Rattle.xml.proofs.comments.comment.Reads as reads
-use Rattle.xml.proofs.comments.comment.Lts as lts
-use Rattle.xml.proofs.comments.comment_text.Reads as comment-text-reads
-use Rattle.xml.proofs.expect.Reads as expect-reads
 use Rattle.shape.proofs.Steps.{reads-then, reads-bad, com-bang, com-bang-2}
 
 expect-requires : tie.Need-expect-requires

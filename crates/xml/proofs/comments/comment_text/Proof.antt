@@ -2,11 +2,6 @@
 -- `xml::comments::comment_text` meets its contract. The loop's invariant: from here, behind a dash or not, the text goes on as from the comment's start.
 use Rattle.xml.proofs.comments.comment_text.Statement.{statement}
 use Rattle.xml.proofs.comments.comment_text.Tie as tie
-use Rattle.xml.proofs.comments.comment_text.Reads as reads
-use Rattle.xml.proofs.comments.comment_text.Lts as lts
-use Rattle.text.proofs.letters.is_any.Reads as is-any-reads
-use Rattle.text.proofs.runs.plain_end.Reads as plain-end-reads
-use Rattle.xml.proofs.expect.Reads as expect-reads
 use Prim.Native.Nat.{_-_, _+_, _≤_}
 use Rattle.shape.proofs.Steps.{past-from, part, com-dash, com-dash-2, com-any, com-plain, com-bad, com-close, com-end}
 use Rattle.text.proofs.Spans.{low-of}

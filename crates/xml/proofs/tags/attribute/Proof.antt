@@ -3,10 +3,6 @@
 use borrow.Author.Needs.{needs}
 use Rattle.xml.proofs.tags.attribute.Statement.{statement}
 use Rattle.xml.proofs.tags.attribute.Tie as tie
-use Rattle.xml.proofs.tags.attribute.Reads as reads
-use Rattle.xml.proofs.tags.attribute.Lts as lts
-use Rattle.xml.proofs.tags.equals.Reads as equals-reads
-use Rattle.xml.proofs.tags.quoted.Reads as quoted-reads
 use Rattle.shape.proofs.Steps.{reads-then, reads-bad}
 
 equals-requires : tie.Need-equals-requires

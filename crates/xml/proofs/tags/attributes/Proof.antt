@@ -2,11 +2,6 @@
 -- `xml::tags::attributes` meets its contract. The loop's invariant: from here the tag goes on as from where it began.
 use Rattle.xml.proofs.tags.attributes.Statement.{statement}
 use Rattle.xml.proofs.tags.attributes.Tie as tie
-use Rattle.xml.proofs.tags.attributes.Reads as reads
-use Rattle.xml.proofs.tags.attributes.Lts as lts
-use Rattle.text.proofs.letters.is_start.Reads as is-start-reads
-use Rattle.text.proofs.runs.blanks_end.Reads as blanks-end-reads
-use Rattle.xml.proofs.tags.attribute.Reads as attribute-reads
 use Prim.Native.Nat.{_-_, _≤_}
 use Rattle.text.proofs.Spans.{low-of, stop-of}
 use Rattle.text.specs.Kinds.{isBlank}

@@ -3,11 +3,6 @@
 use borrow.Author.Needs.{needs}
 use Rattle.xml.proofs.tags.end_tag.Statement.{statement}
 use Rattle.xml.proofs.tags.end_tag.Tie as tie
-use Rattle.xml.proofs.tags.end_tag.Reads as reads
-use Rattle.xml.proofs.tags.end_tag.Lts as lts
-use Rattle.text.proofs.runs.blanks_end.Reads as blanks-end-reads
-use Rattle.xml.proofs.expect.Reads as expect-reads
-use Rattle.xml.proofs.tags.same_name.Reads as same-name-reads
 use Rattle.shape.proofs.Tags.{end-reads, end-bad}
 
 same-name-requires : tie.Need-same-name-requires

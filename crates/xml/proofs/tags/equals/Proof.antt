@@ -3,11 +3,6 @@
 use borrow.Author.Needs.{needs}
 use Rattle.xml.proofs.tags.equals.Statement.{statement}
 use Rattle.xml.proofs.tags.equals.Tie as tie
-use Rattle.xml.proofs.tags.equals.Reads as reads
-use Rattle.xml.proofs.tags.equals.Lts as lts
-use Rattle.text.proofs.runs.blanks_end.Reads as blanks-end-reads
-use Rattle.text.proofs.runs.name_end.Reads as name-end-reads
-use Rattle.xml.proofs.expect.Reads as expect-reads
 use Rattle.shape.proofs.Tags.{equals-reads}
 
 name-end-requires : tie.Need-name-end-requires

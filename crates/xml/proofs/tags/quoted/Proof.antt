@@ -3,11 +3,6 @@
 use borrow.Author.Needs.{needs}
 use Rattle.xml.proofs.tags.quoted.Statement.{statement}
 use Rattle.xml.proofs.tags.quoted.Tie as tie
-use Rattle.xml.proofs.tags.quoted.Reads as reads
-use Rattle.xml.proofs.tags.quoted.Lts as lts
-use Rattle.text.proofs.runs.blanks_end.Reads as blanks-end-reads
-use Rattle.text.proofs.runs.value_end.Reads as value-end-reads
-use Rattle.xml.proofs.expect.Reads as expect-reads
 use Rattle.shape.proofs.Steps.{reads-then, reads-bad}
 use Rattle.shape.proofs.Tags.{quote-reads, value-reads}
 

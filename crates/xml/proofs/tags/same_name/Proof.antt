@@ -2,8 +2,6 @@
 -- `xml::tags::same_name` meets its contract. The loop's invariant: the letters left must stand here.
 use Rattle.xml.proofs.tags.same_name.Statement.{statement}
 use Rattle.xml.proofs.tags.same_name.Tie as tie
-use Rattle.xml.proofs.tags.same_name.Reads as reads
-use Rattle.xml.proofs.tags.same_name.Lts as lts
 use Prim.Native.Nat.{ℕ, _-_, _≤_}
 use Rattle.shape.proofs.Run.{at-end}
 use Rattle.shape.proofs.Tags.{name-step, name-dead, name-over}

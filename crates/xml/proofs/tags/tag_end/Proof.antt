@@ -3,9 +3,6 @@
 use borrow.Author.Needs.{needs}
 use Rattle.xml.proofs.tags.tag_end.Statement.{statement}
 use Rattle.xml.proofs.tags.tag_end.Tie as tie
-use Rattle.xml.proofs.tags.tag_end.Reads as reads
-use Rattle.xml.proofs.tags.tag_end.Lts as lts
-use Rattle.xml.proofs.expect.Reads as expect-reads
 use Rattle.shape.proofs.Run.{at-end}
 use Rattle.shape.proofs.Tags.{tag-open, tag-dead, tag-empty, tag-empty-bad}
 use Rattle.shape.specs.MachineCode.{tag, valued}

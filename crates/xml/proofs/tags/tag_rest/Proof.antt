@@ -3,10 +3,6 @@
 use borrow.Author.Needs.{needs}
 use Rattle.xml.proofs.tags.tag_rest.Statement.{statement}
 use Rattle.xml.proofs.tags.tag_rest.Tie as tie
-use Rattle.xml.proofs.tags.tag_rest.Reads as reads
-use Rattle.xml.proofs.tags.tag_rest.Lts as lts
-use Rattle.xml.proofs.tags.attributes.Reads as attributes-reads
-use Rattle.xml.proofs.tags.tag_end.Reads as tag-end-reads
 use Rattle.shape.proofs.Steps.{then-bad}
 use Rattle.shape.proofs.Tags.{rest-end}
 use Rattle.shape.specs.MachineCode.{valued}

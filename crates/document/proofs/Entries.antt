@@ -1,0 +1,162 @@
+-- Entries one behind the other in a buffer of words: they are read back as they were written, and one more goes behind them.
+use Prim.Native.Nat.{ℕ, zero, suc, _+_, _*_, _≤_, _<_}
+use native.Mathlib.Omega.{arith}
+use native.Mathlib.Nat.{le-refl, add-suc, add-zero}
+use native.Mathlib.Numerals.{add-one}
+use mathlib.Core.Path.{_≡_, refl, sym, ap, _∙_}
+use mathlib.Core.List.{List, [], _∷_, _++_, append-assoc, append-nil}
+use mathlib.Core.Bool.{true, false, cond}
+use lib.Dec.{leb}
+use lib.ListN.{length, getD, set, take, drop, length-append, length-set}
+use lib.Seq.{take-at, drop-at, length-take-le, take-all, take-suc}
+use borrow.Author.Tests.{le-leb, lt-leb}
+use Rattle.lists.specs.Lists.{gathered, Every}
+use Rattle.lists.specs.FillsCode.{Filled}
+use Rattle.lists.proofs.Cases.{by-cases}
+use Rattle.lists.proofs.Fills.{filled-count, filled-one, filled-then}
+use Rattle.schema.specs.SchemaCode.{kindName, isRuled}
+use Rattle.element.specs.declared.Gathered.{Gathered}
+use Rattle.document.specs.declared.Walk.{Walk}
+use Rattle.document.specs.EntriesCode.{Entry, rowFrom, entryWords, written, rowSize, entryFrom, entriesFrom, entriesIn}
+use Rattle.document.specs.DocumentCode.{FoundSoFar, Index, entered, enteredFound, rowWords, entryBy, found, Formed, Sound, EnteredIs}
+
+-- ---- read back
+drop-two : (m a b : ℕ) (l : List ℕ) → drop (m + 2) (a ∷ b ∷ l) ≡ drop m l
+drop-two m a b l = let e : m + 2 ≡ suc (suc m) = omega arith in ap (λ (n : ℕ). drop n (a ∷ b ∷ l)) e
+
+entry-back : (e : Entry) (ws : List ℕ) → Formed e → entryFrom (e .kind ∷ e .place ∷ e .number ∷ e .row ++ ws) ≡ e
+unfolding entryFrom
+entry-back e ws f =
+    let p : take (rowSize (e .kind)) (e .row ++ ws) ≡ e .row = take-at (e .row) ws (rowSize (e .kind)) f in
+    λ i. record { kind = e .kind; place = e .place; number = e .number; row = p i }
+
+entries-from : (es : List Entry) → Every Formed es → (n : ℕ) → length (written es) ≤ n → entriesFrom n (written es) ≡ es
+unfolding entriesFrom gathered Every
+entries-from [] f zero h = refl
+entries-from [] f (suc n) h = refl
+entries-from (e ∷ es) f zero h = absurd (omega arith)
+entries-from (e ∷ es) f (suc n) h =
+    let l = length-append (e .row) (written es) in
+    let d : drop (rowSize (e .kind) + 2) (e .place ∷ e .number ∷ e .row ++ written es) ≡ written es =
+    drop-two (rowSize (e .kind)) (e .place) (e .number) (e .row ++ written es)
+    ∙ drop-at (e .row) (written es) (rowSize (e .kind)) (f .0) in
+    ap (λ (x : Entry). x ∷ entriesFrom n (drop (rowSize (e .kind) + 2) (e .place ∷ e .number ∷ e .row ++ written es)))
+    (entry-back e (written es) (f .0))
+    ∙ ap (λ (l : List Entry). e ∷ l) (ap (entriesFrom n) d ∙ entries-from es (f .1) n (omega (arith, h, l)))
+
+pub entries-back : (es : List Entry) → Every Formed es → entriesIn (written es) ≡ es
+entries-back es f = entries-from es f (length (written es)) (le-refl (length (written es)))
+
+pub sound-entries : (end : ℕ) (ms : List ℕ) (s : Sound end ms) → entriesIn (take end ms) ≡ s .entries
+sound-entries end ms s = ap entriesIn (s .words) ∙ entries-back (s .entries) (s .formed)
+
+pub sound-none : (end : ℕ) (ms : List ℕ) → end ≡ 0 → Sound end ms
+unfolding gathered Every
+sound-none end ms e = rw e (record { entries = []; formed = tt; words = refl; long = refl })
+
+pub sound-same : (end end′ : ℕ) (ms : List ℕ) → Sound end ms → end′ ≡ end → Sound end′ ms
+sound-same end end′ ms s e = rw e s
+
+-- ---- one more
+every-snoc : (es : List Entry) (e : Entry) → Every Formed es → Formed e → Every Formed (es ++ (e ∷ []))
+unfolding Every
+every-snoc [] e f g = (g, tt)
+every-snoc (x ∷ es) e f g = (f .0, every-snoc es e (f .1) g)
+
+pub written-snoc : (es : List Entry) (e : Entry) → written (es ++ (e ∷ [])) ≡ written es ++ entryWords e
+unfolding gathered
+written-snoc [] e = append-nil (entryWords e)
+written-snoc (x ∷ es) e =
+    ap (λ (l : List ℕ). entryWords x ++ l) (written-snoc es e) ∙ sym (append-assoc (entryWords x) (written es) (entryWords e))
+
+pub row-long : (k p n : ℕ) (g : Gathered) → length (g .values) ≡ 25 → Formed (entryBy k p n g)
+unfolding rowSize
+row-long k p n g l = by-cases (isRuled (kindName k)) (λ t. rw t (omega (arith, l))) (λ t. rw t)
+
+module _ (w : Walk) (ms : List ℕ) (s : Sound (w .end) ms) (e : Entry) where
+  pub enters : (ms′ : List ℕ) (end : ℕ) → Formed e → w .end ≤ 3468 → Filled (take (w .end) ms ++ entryWords e) ms ms′ end
+      → EnteredIs (found w ms) e (w .at) (record { at = w .at; fault = w .fault; end = end; lacking = w .lacking }) ms′
+  unfolding found entered
+  enters ms′ end f h x =
+      let es = s .entries in
+      let a : take end ms′ ≡ written (es ++ (e ∷ [])) = x .words ∙ (ap (λ (l : List ℕ). l ++ entryWords e) (s .words) ∙ sym (written-snoc es e)) in
+      let z : Sound end ms′ = record {
+        entries = es ++ (e ∷ []);
+        formed = every-snoc es e (s .formed) f;
+        words = a;
+        long = sym (filled-count x) ∙ ap length (sym (x .words) ∙ a);
+      } in
+      record {
+        walks =
+            rw (sound-entries end ms′ z, sound-entries (w .end) ms s, ← s .long, le-leb (w .end) 3468 h);
+        stays = refl;
+        sound = z;
+      }
+
+  pub enters-none : 3468 < w .end → EnteredIs (found w ms) e (w .at) w ms
+  unfolding found entered
+  enters-none h =
+      record { walks = rw (sound-entries (w .end) ms s, ← s .long, lt-leb (w .end) 3468 h); stays = refl; sound = s }
+
+-- ---- words put behind those that stand there
+filled-self : (ws : List ℕ) (at : ℕ) → at ≤ length ws → Filled (take at ws) ws ws at
+filled-self ws at h = record { words = refl; rest = refl; long = refl; within = h }
+
+pub put-two : (ws : List ℕ) (at a b : ℕ) → at + 2 ≤ length ws
+    → Filled (take at ws ++ (a ∷ b ∷ [])) ws (set (set ws at a) (at + 1) b) (at + 2)
+put-two ws at a b h =
+    let x = filled-one (take at ws) ws ws at (at + 1) a (filled-self ws at (omega arith)) (omega arith) refl in
+    let y = filled-one (take at ws ++ (a ∷ [])) ws (set ws at a) (at + 1) (at + 2) b x (omega arith) (omega arith) in
+    rw (append-assoc (take at ws) (a ∷ []) (b ∷ [])) at y
+
+pub put-three : (ws : List ℕ) (at a b c : ℕ) → at + 3 ≤ length ws
+    → Filled (take at ws ++ (a ∷ b ∷ c ∷ [])) ws (set (set (set ws at a) (at + 1) b) (at + 2) c) (at + 3)
+put-three ws at a b c h =
+    let x = put-two ws at a b (omega arith) in
+    let y = filled-one (take at ws ++ (a ∷ b ∷ [])) ws (set (set ws at a) (at + 1) b) (at + 2) (at + 3) c x (omega arith) (omega arith) in
+    rw (append-assoc (take at ws) (a ∷ b ∷ []) (c ∷ [])) at y
+
+-- the first a of the values, one more, and all
+pub values-none : (vs ws : List ℕ) (at : ℕ) → at ≤ length ws → Filled (take at ws ++ take 0 vs) ws ws (at + 0)
+values-none vs ws at h = rw (append-nil (take at ws), add-zero at) (filled-self ws at h)
+
+pub values-more : (vs ws ms : List ℕ) (at a : ℕ) → Filled (take at ws ++ take a vs) ws ms (at + a) → a < length vs → at + a < length ws
+    → Filled (take at ws ++ take (a + 1) vs) ws (set ms (at + a) (getD vs a 0)) (at + (a + 1))
+values-more vs ws ms at a x h k =
+    let y = filled-one (take at ws ++ take a vs) ws ms (at + a) (at + (a + 1)) (getD vs a 0) x k (omega arith) in
+    rw (add-one a, take-suc vs a 0 h, ← append-assoc (take at ws) (take a vs) (getD vs a 0 ∷ [])) (rw (add-one a) at y)
+
+pub values-all : (vs ws ms : List ℕ) (at a : ℕ) → Filled (take at ws ++ take a vs) ws ms (at + a) → length vs ≤ a
+    → Filled (take at ws ++ vs) ws ms (at + a)
+values-all vs ws ms at a x h = rw (take-all a vs h) at x
+
+-- more behind what was put
+pub then-more : (ws ms ms′ done more : List ℕ) (n m : ℕ) → Filled done ws ms n → Filled (take n ms ++ more) ms ms′ m
+    → Filled (done ++ more) ws ms′ m
+then-more ws ms ms′ done more n m x y =
+    let a = length-take-le n ms (omega (arith, x .within, x .long)) in
+    filled-then more x y (omega (arith, a, filled-count y, length-append (take n ms) more))
+
+pub put-ends : (ws ms done : List ℕ) (at r : ℕ) → Filled (take at ws ++ done) ws ms r → at ≤ length ws
+    → (r ≡ at + length done) × (length ms ≡ length ws)
+put-ends ws ms done at r x h =
+    (omega (arith, filled-count x, length-append (take at ws) done, length-take-le at ws h), x .long)
+
+-- the words of an entry with a row, and of one without
+module _ (ws ms : List ℕ) (at k p n h : ℕ) (g : Gathered) (x : Filled (take at ws ++ (k ∷ p ∷ n ∷ [])) ws ms h) where
+  pub ruled-put : isRuled (kindName k) ≡ true → (ms′ : List ℕ) (r : ℕ) → Filled (take h ms ++ rowWords g) ms ms′ r
+      → Filled (take at ws ++ entryWords (entryBy k p n g)) ws ms′ r
+  ruled-put t ms′ r y =
+      rw t (rw (append-assoc (take at ws) (k ∷ p ∷ n ∷ []) (rowWords g)) at
+      (then-more ws ms ms′ (take at ws ++ (k ∷ p ∷ n ∷ [])) (rowWords g) h r x y))
+
+  pub bare-put : isRuled (kindName k) ≡ false → Filled (take at ws ++ entryWords (entryBy k p n g)) ws ms h
+  bare-put t = rw t x
+
+pub row-put : (ws : List ℕ) (at a b : ℕ) (vs ms : List ℕ) (r : ℕ) → at + 27 ≤ length ws
+    → Filled (take (at + 2) (set (set ws at a) (at + 1) b) ++ vs) (set (set ws at a) (at + 1) b) ms r
+    → Filled (take at ws ++ (a ∷ b ∷ vs)) ws ms r
+row-put ws at a b vs ms r h y =
+    let x = put-two ws at a b (omega arith) in
+    rw (append-assoc (take at ws) (a ∷ b ∷ []) vs) at
+    (then-more ws (set (set ws at a) (at + 1) b) ms (take at ws ++ (a ∷ b ∷ [])) vs (at + 2) r x y)

@@ -1,2 +1,0 @@
--- Laws of the definitions alone.
-pub mod ElementLaws
