@@ -59,7 +59,7 @@ extern "C" {
 
    An element's place is the offset of its `<` in the file.
 
-   The call needs about 131 KB of stack (measured: 130,520 bytes at most, on files as deep as the format goes): give a thread that makes it 160 KB at least. */
+   The call needs about 97 KB of stack (measured: 96,848 bytes at most, on files as deep as the format goes): give a thread that makes it 128 KB at least. */
 uint64_t steamfiddle_convert(const uint8_t *file, size_t file_len, uint32_t *plan, size_t plan_len);
 
 /* ---- Plans: liblogger_c.a

@@ -1,11 +1,11 @@
 -- What `convert` does gives what its contract says.
-use Prim.Native.Nat.{ℕ, _≤_}
+use Prim.Native.Nat.{ℕ, _≤_, _<_}
 use native.Mathlib.Omega.{arith}
 use mathlib.Core.Path.{_≡_, refl, sym, ap, subst, _∙_}
 use mathlib.Core.Option.{some, Option·none-ne-some}
 use mathlib.Core.List.{List, [], _∷_, _++_, map, append-assoc}
-use lib.ListN.{length}
-use borrow.Author.Tests.{ne-eqb}
+use lib.ListN.{length, take, drop, length-take}
+use lib.Seq.{take-at}
 use Rattle.shape.specs.declared.Shape.{Shape}
 use Rattle.shape.specs.declared.Shape.the-variants.{Whole, TooLong, Broken}
 use Rattle.shape.specs.Shape.{Node, WellShaped, shapeRefusal}
@@ -14,30 +14,29 @@ use Rattle.grammar.proofs.Ruled.{becomes}
 use Rattle.records.specs.Records.{PlanStatement}
 use Rattle.file_rules.specs.Element.{Known, Fault}
 use Rattle.file_rules.specs.Document.{knownElements, elementFaults}
-use Rattle.document.specs.EntriesCode.{entryOf}
-use Rattle.document.specs.DocumentCode.{Index, refusedIndex, indexOf, Indexes}
-use Rattle.writer.specs.declared.Sheet.{Sheet}
-use Rattle.writer.specs.declared.Written.{Written}
-use Rattle.writer.specs.declared.Written.the-variants.{Words, Short}
-use Rattle.writer.specs.SheetCode.{sheetWords, Writes}
-use Rattle.tables.specs.declared.rows.Told.{Told}
-use Rattle.tables.specs.RowsCode.{told}
 use Rattle.file_rules.specs.declared.Refusal.{Refusal}
-use Rattle.tables.specs.declared.Telling.{Telling}
 use Rattle.file_rules.specs.Reading.{is}
 use Rattle.file_rules.specs.Tables.{kept, expressionOf, namesOf, tableFaults}
+use Rattle.document.specs.declared.Found.{Found}
+use Rattle.document.specs.EntriesCode as entries
+use Rattle.document.specs.EntriesCode.{Entry, entryOf, entryMost, entryRoom, entriesIn}
+use Rattle.document.specs.DocumentCode.{Index, indexOf, Indexes, IndexedIn}
+use Rattle.document.proofs.Entries.{entries-back}
+use Rattle.document.proofs.Few.{few}
 use Rattle.lists.specs.Lists.{gathered}
 use Rattle.lists.proofs.Cases.{same-pair}
-use Rattle.tables.specs.TablesCode.{tableFault, tabled, Tabled}
+use Rattle.tables.specs.declared.Telling.{Telling}
+use Rattle.tables.specs.TablesCode.{namesAt, tabled}
+use Rattle.tables.proofs.Entries.{faultless-parts}
 use Rattle.tables.proofs.Laws.{reads-well}
 use Rattle.tables.proofs.Wanted.{firstOf, Reads}
-use Rattle.converter.specs.declared.statements.Composed.{Composed}
+use Rattle.converter.specs.declared.Written.{Written}
 use Rattle.converter.specs.declared.Converted.the-variants as answer
 use Rattle.converter.specs.Converter.{Composes, Judged, Meets, Refuses, Converts}
-use Rattle.converter.specs.StatementsCode.{composed}
-use Rattle.converter.specs.ConverterCode.{sheetOf}
-use Rattle.converter.proofs.Numbers.{element-number, table-number}
-use Rattle.converter.proofs.Lines.{Stops, statementOf, faultsOf, compile-composes, allLines, composed-is, sheet-is}
+use Rattle.converter.specs.PlanCode.{written, Wrote, WroteOr, lateFault, sheetWords}
+use Rattle.converter.proofs.Numbers.{element-number, table-number, late-number}
+use Rattle.converter.proofs.Lines.{statementOf, faultsOf, compile-composes}
+use Rattle.converter.proofs.Sheet as sheet
 
 -- the rules give every statement something, whatever the names
 pub composes-some : (names : List (List ℕ)) (ks : List Known) → (fs : List Fault) × (ss : List PlanStatement) × Composes names ks fs ss
@@ -58,159 +57,160 @@ refuse-early s room x short w a l e =
       in-order = ap (λ (fs : List Fault). fs ++ r .0) (sym e) ∙ append-assoc (elementFaults x) (tableFaults (knownElements x)) (r .0);
     })
 
--- ---- the fault of the tables
 shape-number : (a : Shape) (n p : ℕ) → shapeRefusal a ≡ some (n, p) → 1 ≤ n
 shape-number Whole n p e = absurd (Option·none-ne-some (n, p) e)
 shape-number TooLong n p e = omega (arith, same-pair _ refl e .0)
 shape-number (Broken q) n p e = omega (arith, same-pair _ refl e .0)
 
--- the tables by an index
-abbrev tabledBy : List ℕ → Index → Telling
-tabledBy f x = tabled f (x .fault) (x .entries)
+pub copy-room : (n : ℕ) (e d : List ℕ) → n ≤ length d → length (take n e) ≤ length d
+copy-room n e d h = omega (arith, h, length-take n e)
 
-fault-first : (f : List ℕ) (x : Index) → 1 ≤ x .fault .number → tabledBy f x .fault ≡ x .fault
-unfolding tabled
-fault-first f x h = rw (ne-eqb (x .fault .number) 0 (λ z. absurd (omega (arith, z, h))))
+abbrev RefusedBy : List ℕ → List ℕ → Refusal → Type 0
+RefusedBy f d r = Converts f d (answer.Refused (r .number) (r .place)) d
 
-fault-then : (f : List ℕ) (ks : List Known) → tabledBy f (indexOf ks) .fault ≡ tableFault f (map entryOf ks) (told f (map entryOf ks))
-unfolding tabled indexOf
-fault-then f ks = refl
-
--- a document without faults up to 10, and what was told of it
-pub record Clear (f : List ℕ) (t : Told) : Type 0 where
+-- a document without faults up to 8, and its entries
+pub record Plain (f : List ℕ) (es : List Entry) : Type 0 where
   pub root : Node
   pub short : length f ≤ 32768
   pub shaped : WellShaped f root
   pub faultless : elementFaults root ≡ []
-  pub tables : tableFaults (knownElements root) ≡ []
-  pub reads : Reads f root t
+  pub entries : es ≡ map entryOf (knownElements root)
 
--- ---- a refusal by the tables
-abbrev RefusedBy : List ℕ → List ℕ → Refusal → Type 0
-RefusedBy f d r = Converts f d (answer.Refused (r .number) (r .place)) d
-
+-- ---- by the index
 module _ (f : List ℕ) where
-  -- by the faults ts of the tables of a document
-  refuse-by : (d : List ℕ) (x : Node) → length f ≤ 32768 → WellShaped f x → elementFaults x ≡ [] → (ts : List Fault)
-      → tableFaults (knownElements x) ≡ ts → (firstOf ts .number ≡ 0 → ⊥) → RefusedBy f d (firstOf ts)
-  refuse-by d x short w e [] q h = absurd (h refl)
-  refuse-by d x short w e (a ∷ l) q h =
-      Converts.refuses (a .number) (a .place) (refuse-early f (length d) x short w a l (rw (e, q)))
-
-  refuse-at : (d : List ℕ) (x : Index) → Indexes f x → (tabledBy f x .fault .number ≡ 0 → ⊥) → RefusedBy f d (tabledBy f x .fault)
-  refuse-at d x (Indexes.shapeless a n p s e) h =
-      subst (RefusedBy f d) (sym (fault-first f _ (shape-number a n p e))) (Converts.refuses n p (Refuses.by-shape a s e))
-  refuse-at d x (Indexes.faulty y a l short w e) h =
-      subst (RefusedBy f d) (sym (fault-first f _ (element-number y a l e)))
-      (Converts.refuses (a .number) (a .place)
-      (refuse-early f (length d) y short w a (l ++ tableFaults (knownElements y))
-      (ap (λ (fs : List Fault). fs ++ tableFaults (knownElements y)) e)))
-  refuse-at d x (Indexes.faultless y short w e) h =
-      let q : tabledBy f (indexOf (knownElements y)) .fault ≡ firstOf (tableFaults (knownElements y)) = fault-then f (knownElements y)
-      ∙ reads-well f y short w e .fault in
-      subst (RefusedBy f d) (sym q)
-      (refuse-by d y short w e (tableFaults (knownElements y)) refl (λ z. h (ap (λ (r : Refusal). r .number) q ∙ z)))
-
-  pub converts-refused : (d : List ℕ) (r : Telling) → Tabled f r → (r .fault .number ≡ 0 → ⊥)
-      → Converts f d (answer.Refused (r .fault .number) (r .fault .place)) d
-  converts-refused d r t h =
-      let q : r .fault ≡ tabledBy f (t .index) .fault = ap (λ (z : Telling). z .fault) (t .same-tables) in
-      subst (RefusedBy f d) (sym q) (refuse-at d (t .index) (t .indexes) (λ z. h (ap (λ (y : Refusal). y .number) q ∙ z)))
-
-  -- ---- no refusal by the tables
-  clear-by : (x : Node) → length f ≤ 32768 → WellShaped f x → elementFaults x ≡ [] → (ts : List Fault) → tableFaults (knownElements x) ≡ ts
-      → firstOf ts .number ≡ 0 → Clear f (told f (map entryOf (knownElements x)))
-  clear-by x short w e [] q h = record { root = x; short = short; shaped = w; faultless = e; tables = q; reads = reads-well f x short w e }
-  clear-by x short w e (a ∷ l) q h = absurd (omega (arith, table-number (knownElements x) a l q, h))
-
-  clear-at : (x : Index) → Indexes f x → tabledBy f x .fault .number ≡ 0 → Clear f (told f (x .entries))
+  refused-at : (d : List ℕ) (x : Index) → Indexes f x → (x .fault .number ≡ 0 → ⊥) → RefusedBy f d (x .fault)
   unfolding indexOf
-  clear-at x (Indexes.shapeless a n p s e) h =
-      let g = shape-number a n p e in
-      absurd (omega (arith, g, ap (λ (r : Refusal). r .number) (fault-first f (refusedIndex n p) g), h))
-  clear-at x (Indexes.faulty y a l short w e) h =
-      let g = element-number y a l e in
-      absurd (omega (arith, g, ap (λ (r : Refusal). r .number) (fault-first f (refusedIndex (a .number) (a .place)) g), h))
-  clear-at x (Indexes.faultless y short w e) h =
-      let q : tabledBy f (indexOf (knownElements y)) .fault ≡ firstOf (tableFaults (knownElements y)) = fault-then f (knownElements y)
-      ∙ reads-well f y short w e .fault in
-      clear-by y short w e (tableFaults (knownElements y)) refl (sym (ap (λ (r : Refusal). r .number) q) ∙ h)
+  refused-at d x (Indexes.shapeless a n p s e) h = Converts.refuses n p (Refuses.by-shape a s e)
+  refused-at d x (Indexes.faulty y a l short w e) h =
+      Converts.refuses (a .number) (a .place)
+      (refuse-early f (length d) y short w a (l ++ tableFaults (knownElements y))
+      (ap (λ (fs : List Fault). fs ++ tableFaults (knownElements y)) e))
+  refused-at d x (Indexes.faultless y short w e) h = absurd (h refl)
 
-  pub clear : (r : Telling) → Tabled f r → r .fault .number ≡ 0 → Clear f (r .told)
-  unfolding tabled
-  clear r t h =
-      let q : r .fault ≡ tabledBy f (t .index) .fault = ap (λ (z : Telling). z .fault) (t .same-tables) in
-      let p : r .told ≡ told f (t .index .entries) = ap (λ (z : Telling). z .told) (t .same-tables) in
-      subst (Clear f) (sym p) (clear-at (t .index) (t .indexes) (sym (ap (λ (y : Refusal). y .number) q) ∙ h))
+  plain-at : (x : Index) → Indexes f x → x .fault .number ≡ 0 → Plain f (x .entries)
+  unfolding indexOf
+  plain-at x (Indexes.shapeless a n p s e) h = absurd (omega (arith, shape-number a n p e, h))
+  plain-at x (Indexes.faulty y a l short w e) h = absurd (omega (arith, element-number y a l e, h))
+  plain-at x (Indexes.faultless y short w e) h = record { root = y; short = short; shaped = w; faultless = e; entries = refl }
 
--- ---- the expressions, and the words: of a document that is clear so far
-module _ (f : List ℕ) (t : Told) (k : Clear f t) (d : List ℕ) (m : Composed) (q : m ≡ composed f (t .names) (t .drafts)) where
-  abbrev X : Node
-  X = k .root
+  module _ (r : Found) (ws : List ℕ) (x : IndexedIn f r ws) where
+    pub end-count : length (take (r .end) ws) ≡ r .end
+    end-count = ap length (x .holds .words) ∙ sym (x .holds .long)
 
-  abbrev codes : List (List ℕ)
-  codes = namesOf (knownElements X)
+    pub end-within : r .end ≤ length ws
+    end-within = omega (arith, end-count, length-take (r .end) ws)
+
+    pub index-refused : (d : List ℕ) → (r .fault .number ≡ 0 → ⊥) → RefusedBy f d (r .fault)
+    index-refused d h =
+        let q = x .holds .fault in
+        subst (RefusedBy f d) (sym q) (refused-at d (x .index) (x .indexes) (λ z. h (ap (λ (y : Refusal). y .number) q ∙ z)))
+
+    pub plain : r .fault .number ≡ 0 → Plain f (entriesIn (take (r .end) ws))
+    plain h =
+        let q : entriesIn (take (r .end) ws) ≡ x .index .entries = ap entriesIn (x .holds .words)
+        ∙ entries-back (x .index .entries) (x .holds .formed) in
+        subst (Plain f) (sym q)
+        (plain-at (x .index) (x .indexes) (sym (ap (λ (y : Refusal). y .number) (x .holds .fault)) ∙ h))
+
+    pub few-entries : r .fault .number ≡ 0 → length (take (r .end) ws) ≤ entryRoom
+    few-entries h =
+        let q = plain-at (x .index) (x .indexes) (sym (ap (λ (y : Refusal). y .number) (x .holds .fault)) ∙ h) in
+        let m : length (entries.written (x .index .entries)) ≤ entryMost = rw (q .entries) (few (q .root) (faultless-parts (q .root) (q .faultless) .0)) in
+        omega (arith, ap length (x .holds .words), m)
+
+-- ---- by the tables
+module _ (f d : List ℕ) (es : List Entry) (p : Plain f es) (t : Telling) (q : t ≡ tabled f es) where
+  abbrev x : Node
+  x = p .root
 
   abbrev ks : List Known
-  ks = kept (is "STATEMENT") (knownElements X)
+  ks = knownElements x
 
-  abbrev late : List Fault
-  late = gathered (faultsOf codes) ks
+  reads : Reads f ks t
+  reads = subst (Reads f ks) (sym (q ∙ ap (tabled f) (p .entries))) (reads-well f x (p .shaped) (p .faultless))
 
-  abbrev ss : List PlanStatement
-  ss = map (statementOf codes) ks
+  refused-by : (ts : List Fault) → tableFaults ks ≡ ts → (firstOf ts .number ≡ 0 → ⊥) → RefusedBy f d (firstOf ts)
+  refused-by [] e h = absurd (h refl)
+  refused-by (a ∷ l) e h =
+      Converts.refuses (a .number) (a .place) (refuse-early f (length d) x (p .short) (p .shaped) a l (rw (p .faultless, e)))
 
-  -- all faults are those of the expressions
-  judged : (cs : List Fault) → late ≡ cs → Judged X cs ss
-  judged cs e =
-      let few : length codes ≤ 32 = subst (λ (l : List (List ℕ)). length l ≤ 32) (k .reads .names) (few-names f _ _) in
-      record { late = late; composed = compile-composes codes few ks; in-order = rw (k .faultless, k .tables) (sym e) }
+  pub tables-refused : (t .fault .number ≡ 0 → ⊥) → RefusedBy f d (t .fault)
+  tables-refused h =
+      let e = reads .fault in
+      subst (RefusedBy f d) (sym e) (refused-by (tableFaults ks) refl (λ z. h (ap (λ (y : Refusal). y .number) e ∙ z)))
 
-  stopped-by : (cs : List Fault) → late ≡ cs → Stops cs m (allLines f X t (k .reads)) → (m .fault .number ≡ 0 → ⊥)
-      → Converts f d (answer.Refused (m .fault .number) (m .fault .place)) d
-  stopped-by [] e c h = absurd (h (ap (λ (y : Composed). y .fault .number) c))
-  stopped-by (a ∷ l) e c h =
-      let g : Refuses f (length d) (a .number) (a .place) = Refuses.by-fault X l ss (k .short) (k .shaped) (judged (a ∷ l) e) in
-      Converts.refuses (m .fault .number) (m .fault .place)
-      (subst (λ (n : ℕ). Refuses f (length d) n (m .fault .place)) (sym (c .0))
-      (subst (λ (p : ℕ). Refuses f (length d) (a .number) p) (sym (c .1)) g))
+  clear-by : (ts : List Fault) → tableFaults ks ≡ ts → firstOf ts .number ≡ 0 → tableFaults ks ≡ []
+  clear-by [] e h = e
+  clear-by (a ∷ l) e h = absurd (omega (arith, table-number ks a l e, h))
 
-  stops-is : Stops late m (allLines f X t (k .reads))
-  stops-is = rw q (composed-is f X t (k .reads))
+  pub sheet-room : length (sheetWords f (t .told) es) ≤ 1590
+  sheet-room = rw (p .entries) (sheet.sheet-fits f x (p .short) (p .shaped) (p .faultless) t reads)
 
-  pub converts-stopped : (m .fault .number ≡ 0 → ⊥) → Converts f d (answer.Refused (m .fault .number) (m .fault .place)) d
-  converts-stopped h = stopped-by late refl stops-is h
+  -- ---- by the expressions
+  module _ (h : t .fault .number ≡ 0) (b : List ℕ) (r : Written) (e : List ℕ)
+      (c : WroteOr (lateFault f (namesAt f (t .told .names)) es) (sheetWords f (t .told) es) b r e) where
+    abbrev codes : List (List ℕ)
+    codes = namesOf ks
 
-  -- no expression is refused
-  lines-by : (cs : List Fault) → late ≡ cs → Stops cs m (allLines f X t (k .reads)) → m .fault .number ≡ 0
-      → (late ≡ []) × (m .lines ≡ allLines f X t (k .reads))
-  lines-by [] e c h = (e, ap (λ (y : Composed). y .lines) c)
-  lines-by (a ∷ l) e c h = absurd (omega (arith, c .0, c .2, h))
+    abbrev lines : List Known
+    lines = kept (is "STATEMENT") ks
 
-  module _ (h : m .fault .number ≡ 0) (s : Sheet) (e : s ≡ sheetOf t (m .lines)) where
-    composed-lines : (late ≡ []) × (m .lines ≡ allLines f X t (k .reads))
-    composed-lines = lines-by late refl stops-is h
+    abbrev late : List Fault
+    late = gathered (faultsOf codes) lines
 
-    meets : Meets f (sheetWords s)
-    meets = record {
-      document = X;
-      statements = ss;
-      short = k .short;
-      spells = k .shaped;
-      faultless = judged [] (composed-lines .0);
-      words = ap sheetWords (e ∙ ap (sheetOf t) (composed-lines .1)) ∙ sheet-is f X t (k .reads);
-    }
+    abbrev ss : List PlanStatement
+    ss = map (statementOf codes) lines
 
-    written-by : (n : ℕ) (b : List ℕ) → Writes (sheetWords s) d (Words n) b → Converts f d (answer.Words n) b
-    written-by n b (Writes.fits r) = Converts.converts (sheetWords s) meets r
+    tables-clear : tableFaults ks ≡ []
+    tables-clear = clear-by (tableFaults ks) refl (sym (ap (λ (y : Refusal). y .number) (reads .fault)) ∙ h)
 
-    short-by : (n : ℕ) (b : List ℕ) → Writes (sheetWords s) d (Short n) b → Converts f d (answer.Refused 13 n) b
-    short-by n b (Writes.short r) = Converts.refuses 13 n (Refuses.by-room (sheetWords s) meets r refl refl)
+    -- all faults are those of the expressions
+    judged : (cs : List Fault) → late ≡ cs → Judged x cs ss
+    judged cs g =
+        let few : length codes ≤ 32 = subst (λ (l : List (List ℕ)). length l ≤ 32) (reads .names) (few-names f _ _) in
+        record { late = late; composed = compile-composes codes few lines; in-order = rw (p .faultless, tables-clear) (sym g) }
 
-    -- w is what `write` answered
-    pub converts-written : (w : Written) (n : ℕ) (b : List ℕ) → Writes (sheetWords s) d w b → w ≡ Words n → Converts f d (answer.Words n) b
-    converts-written w n b p g = written-by n b (subst (λ (y : Written). Writes (sheetWords s) d y b) g p)
+    late-first : r .fault ≡ firstOf late
+    late-first =
+        c .same ∙ ap (lateFault f (namesAt f (t .told .names))) (p .entries)
+        ∙ sheet.late-are f x (p .short) (p .shaped) (p .faultless) t reads
 
-    pub converts-short : (w : Written) (n : ℕ) (b : List ℕ) → Writes (sheetWords s) d w b → w ≡ Short n
-        → Converts f d (answer.Refused 13 n) b
-    converts-short w n b p g = short-by n b (subst (λ (y : Written). Writes (sheetWords s) d y b) g p)
+    late-by : (cs : List Fault) → late ≡ cs → (firstOf cs .number ≡ 0 → ⊥) → RefusedBy f d (firstOf cs)
+    late-by [] g z = absurd (z refl)
+    late-by (a ∷ l) g z = Converts.refuses (a .number) (a .place) (Refuses.by-fault x l ss (p .short) (p .shaped) (judged (a ∷ l) g))
+
+    pub late-refused : (r .fault .number ≡ 0 → ⊥) → RefusedBy f d (r .fault)
+    late-refused z =
+        subst (RefusedBy f d) (sym late-first) (late-by late refl (λ y. z (ap (λ (u : Refusal). u .number) late-first ∙ y)))
+
+    late-positive : (cs : List Fault) → late ≡ cs → firstOf cs .number ≡ 0 → late ≡ []
+    late-positive [] g z = g
+    late-positive (a ∷ l) g z = absurd (omega (arith, late-number codes lines a l g, z))
+
+    module _ (z : r .fault .number ≡ 0) where
+      abbrev words : List ℕ
+      words = sheetWords f (t .told) es
+
+      wrote : Wrote words b (r .count) e
+      wrote = c .wrote (sym (ap (λ (u : Refusal). u .number) (c .same)) ∙ z)
+
+      meets : Meets f words
+      meets = record {
+        document = x;
+        statements = ss;
+        short = p .short;
+        spells = p .shaped;
+        faultless = judged [] (late-positive late refl (sym (ap (λ (u : Refusal). u .number) late-first) ∙ z));
+        words = ap (sheetWords f (t .told)) (p .entries) ∙ sheet.sheet-is f x (p .short) (p .shaped) (p .faultless) t reads;
+      }
+
+      pub late-short : length d < r .count → Converts f d (answer.Refused 13 (r .count)) d
+      late-short k = Converts.refuses 13 (r .count) (Refuses.by-room words meets (rw (← wrote .count) k) refl (wrote .count))
+
+      -- the copy of the first words of the buffer
+      pub late-written : (m : ℕ) (u : List ℕ) → Wrote (take (r .count) e) d m u → r .count ≤ length d → Converts f d (answer.Words m) u
+      late-written m u g k =
+          let a : take (r .count) e ≡ words = ap (take (r .count)) (wrote .words) ∙ take-at words (drop (length words) b) (r .count) (sym (wrote .count)) in
+          let i : m ≡ length words = g .count ∙ ap length a in
+          let v : u ≡ written words d = g .words ∙ ap (λ (l : List ℕ). written l d) a in
+          rw (i, v) (Converts.converts words meets (rw (← wrote .count) k))

@@ -14,8 +14,13 @@ use Rattle.element.specs.ElementCode.{firstNumber}
 use Rattle.element.proofs.Laws.{no-fault}
 use Rattle.file_rules.specs.Reading.{is}
 use Rattle.file_rules.specs.Document.{knownElements, placeOf, lacks, elementFaults}
-use Rattle.file_rules.specs.Tables.{kept, isIn, nameOf, usedNames, gap, channelNamed, channelsIn, tableFaults}
+use Rattle.grammar.specs.declared.Verdict.{Verdict}
+use Rattle.grammar.specs.declared.Verdict.the-variants.{Good, Broken, Unknown}
+use Rattle.grammar.specs.GrammarCode.{verdictRefusal}
+use Rattle.file_rules.specs.Tables.{kept, isIn, expressionsOf, nameOf, usedNames, gap, channelNamed, channelsIn, tableFaults}
 use Rattle.lists.specs.Lists.{any, gathered}
+use Rattle.converter.specs.Converter.{faultOf}
+use Rattle.converter.proofs.Lines.{codeOf, faultsOf}
 
 abbrev Positive : List Fault → Type 0
 Positive [] = Unit {0}
@@ -79,3 +84,15 @@ element-number x a l e = subst Positive e (element-positive x)
 
 pub table-number : (ks : List Known) (a : Fault) (l : List Fault) → tableFaults ks ≡ a ∷ l → 1 ≤ a .number
 table-number ks a l e = subst Positive e (table-positive ks)
+
+verdict-positive : (v : Verdict) (p : ℕ) → Positive (faultOf (verdictRefusal v) p)
+verdict-positive Good p = tt
+verdict-positive Broken p = omega arith
+verdict-positive Unknown p = omega arith
+
+pub late-number : (names : List (List ℕ)) (ks : List Known) (a : Fault) (l : List Fault) → gathered (faultsOf names) ks ≡ a ∷ l → 1 ≤ a .number
+late-number names ks a l e =
+    subst Positive e
+    (positive-all (faultsOf names)
+    (λ k. positive-all (λ y. faultOf (verdictRefusal (codeOf names k .verdict)) (y .place)) (λ y. verdict-positive (codeOf names k .verdict) (y .place)) (expressionsOf k))
+    ks)

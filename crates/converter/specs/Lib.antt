@@ -1,4 +1,3 @@
--- `Converter` is what a reader must believe; the others serve the contracts of inner functions.
+-- `Converter` is what a reader must believe; the other serves the contracts of inner functions.
 pub mod Converter
-pub mod ConverterCode
-pub mod StatementsCode
+pub mod PlanCode

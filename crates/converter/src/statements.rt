@@ -1,177 +1,163 @@
-// Statements with their code: each expression's text is gathered, trimmed and compiled, in order.
+// Statements into a plan: each expression's text is gathered, trimmed and compiled, in order.
 //
-// Promises: `compose` answers any file, names and drafts, by value, as specs/StatementsCode.antt gives it: all statements, or the place of the first
-// expression that is refused and its number, 11 or 12.
+// Promises: `write_statements` writes the words that specs/PlanCode.antt gives, or answers the place of the first expression that is refused and its
+// number, 11 or 12.
 ghost use mathlib.Core.Path.{_≡_};
 ghost use Prim.Native.Nat.{_≤_};
-ghost use lib.ListN.{length, take};
+ghost use lib.ListN.{length, drop};
 ghost use Rattle.shape.specs.Text.{trimmed};
 ghost use Rattle.grammar.specs.GrammarCode.{compiled};
-ghost use Rattle.tables.specs.TablesCode.{namesAt};
-ghost use Rattle.converter.specs.StatementsCode.{compiledAt, noLine, noLines, lineFrom, pushLine, stopped, composed};
+ghost use Rattle.grammar.specs.TokensCode.{namesIn};
+ghost use Rattle.document.specs.EntriesCode.{entriesIn};
+ghost use Rattle.file_rules.specs.RefusalCode.{refusedAt};
+ghost use Rattle.tables.specs.RowsCode.{entryAt, nextAt};
+ghost use Rattle.converter.specs.PlanCode.{Wrote, WroteOr, rowsOf, compiledAt, codeIn, actionsFrom, lineWords, lineRow, lineFault, lateFault};
+use crate::Written;
+use crate::parts;
 use file_rules::Refusal;
 use grammar::Compiled;
 use grammar::Verdict;
-use tables::rows::Draft;
-use tables::rows::Drafts;
-use tables::rows::Names;
+use schema::attributes;
+use schema::kinds;
+use tables::cells;
+use tables::rows;
 use walk::pieces;
 use walk::pieces::Single;
 use walk::texts;
 use walk::trims;
-use writer::Actions;
-use writer::Code;
-use writer::Line;
-use writer::Lines;
-
-// The statements with their code, or a refusal.
-pub struct Composed {
-    pub fault: Refusal,
-    pub lines: Lines,
-}
-
-// How many names count: no more than there are.
-fn name_count(names: Names) -> usize
-    ensures { λ r. ⌜ (r ≡ length (take (names .count) (names .starts))) × (r ≡ length (take (names .count) (names .ends))) ⌝ }
-{
-    lists::least(names.count, 32)
-}
 
 // The code of a text, blanks at its ends aside.
-fn compile_text(text: &[u8], file: &[u8], names: Names) -> Compiled
-    ensures { λ r. ⌜ r ≡ compiled (namesAt (now (file .entry)) names) (trimmed (now (text .entry))) ⌝ }
+fn compile_text(text: &[u8], file: &[u8], starts: &[usize], ends: &[usize]) -> Compiled
+    ensures { λ r. ⌜ r ≡ compiled (namesIn (now (file .entry)) (now (starts .entry)) (now (ends .entry))) (trimmed (now (text .entry))) ⌝ }
 {
-    let n = name_count(names);
-    let starts = names.starts;
-    let ends = names.ends;
     let part = trims::trim(text);
     let a = part.from;
     let e = part.to;
-    expression::compile(&text[a..e], file, &starts[..n], &ends[..n])
+    expression::compile(&text[a..e], file, starts, ends)
 }
 
-// The code of the text of the element at a place. Nearly every text is one piece, and is read where it stands; others are joined in a buffer.
-// One function, so that `names`, which goes by value, is handed on once.
-fn compile_at(file: &[u8], names: Names, place: usize) -> Compiled
-    ensures { λ r. ⌜ r ≡ compiledAt (now (file .entry)) names place ⌝ }
+// The code of a text in pieces, which are joined in a buffer.
+fn compile_joined(file: &[u8], starts: &[usize], ends: &[usize], place: usize) -> Compiled
+    ensures { λ r. ⌜ r ≡ compiledAt (now (file .entry)) (namesIn (now (file .entry)) (now (starts .entry)) (now (ends .entry))) place ⌝ }
+{
+    let mut text = [0; 32768];
+    let n = texts::gather_text(file, place, &mut text);
+    compile_text(&text[..n], file, starts, ends)
+}
+
+// The code of the text of the element at a place. Nearly every text is one piece, and is read where it stands.
+fn compile_at(file: &[u8], starts: &[usize], ends: &[usize], place: usize) -> Compiled
+    ensures { λ r. ⌜ r ≡ compiledAt (now (file .entry)) (namesIn (now (file .entry)) (now (starts .entry)) (now (ends .entry))) place ⌝ }
 {
     match pieces::single_text(file, place) {
-        Single::Part(a, b) => compile_text(&file[a..b], file, names),
-        Single::Pieces => {
-            let mut text = [0; 32768];
-            let n = texts::gather_text(file, place, &mut text);
-            compile_text(&text[..n], file, names)
+        Single::Part(a, b) => compile_text(&file[a..b], file, starts, ends),
+        Single::Pieces => compile_joined(file, starts, ends, place),
+    }
+}
+
+// The actions among the elements of a statement, which stand next, from an offset on.
+fn write_actions(entries: &[u32], from: usize, out: &mut [u32]) -> usize
+    requires { ⌜ length (actionsFrom (entriesIn (drop from (now entries)))) ≤ length (now out) ⌝ }
+    ensures { λ r. ⌜ Wrote (actionsFrom (entriesIn (drop from (now (entries .entry))))) (now (out .entry)) r (now (out .exit)) ⌝ }
+{
+    let mut n = 0;
+    let mut at = from;
+    while at < entries.len() {
+        let kind = cells::kind_at(entries, at);
+        if !rows::is_inner(kind) {
+            return n;
+        }
+        at = cells::next(entries, at);
+        if kinds::is_in(kinds::ACTIONS, kind) {
+            out[n] = rows::action_from(kind);
+            n += 1;
         }
     }
+    n
 }
 
-fn no_line() -> Line
-    ensures { λ r. ⌜ r ≡ noLine ⌝ }
+// How many words of code count: no more than there are.
+fn code_count(code: Compiled) -> usize
+    ensures { λ r. ⌜ (r ≡ length (codeIn code)) × (r ≤ 64) ⌝ }
 {
-    let actions = Actions {
-        words: [0; 6],
-        count: 0,
-    };
-    let code = Code {
-        words: [0; 64],
-        count: 0,
-    };
-    Line {
-        post: 0,
-        actions,
-        code,
+    lists::least(code.count, 64)
+}
+
+// One statement, into a part of the plan that starts behind earlier records. How many actions and code words it has is known behind them.
+fn write_line(post: u32, entries: &[u32], from: usize, code: Compiled, out: &mut [u32]) -> usize
+    requires { ⌜ (length (lineWords post (actionsFrom (entriesIn (drop from (now entries)))) (codeIn code)) ≤ length (now out)) × (length (now out) ≤ 1590) ⌝ }
+    ensures { λ r. ⌜ Wrote (lineWords post (actionsFrom (entriesIn (drop from (now (entries .entry))))) (codeIn code)) (now (out .entry)) r (now (out .exit)) ⌝ }
+{
+    let words = code.words;
+    let m = code_count(code);
+    let head = [post, 0, m as u32];
+    let acts_at = parts::write_words(&head[..], &mut out[..]);
+    let n = write_actions(entries, from, &mut out[acts_at..]);
+    let code_at = acts_at + n;
+    let end = code_at + parts::write_words(&words[..m], &mut out[code_at..]);
+    out[1] = n as u32;
+    end
+}
+
+fn answer(number: u32, place: usize, count: usize) -> Written
+    ensures { λ r. ⌜ (r .fault ≡ refusedAt number place) × (r .count ≡ count) ⌝ }
+{
+    let fault = Refusal { number, place };
+    Written { fault, count }
+}
+
+// The entry at an offset, if it is a STATEMENT; its elements stand behind it. 11 if its expression breaks its rules, 12 if a word names no trigger.
+fn write_statement(
+    file: &[u8],
+    starts: &[usize],
+    ends: &[usize],
+    entries: &[u32],
+    at: usize,
+    out: &mut [u32],
+) -> Written
+    requires { ⌜ (length (lineRow (now file) (namesIn (now file) (now starts) (now ends)) (entryAt (now entries) at) (entriesIn (drop (nextAt (now entries) at) (now entries)))) ≤ length (now out)) × (length (now out) ≤ 1590) ⌝ }
+    ensures { λ r. ⌜ WroteOr (lineFault (now (file .entry)) (namesIn (now (file .entry)) (now (starts .entry)) (now (ends .entry))) (entryAt (now (entries .entry)) at) (entriesIn (drop (nextAt (now (entries .entry)) at) (now (entries .entry))))) (lineRow (now (file .entry)) (namesIn (now (file .entry)) (now (starts .entry)) (now (ends .entry))) (entryAt (now (entries .entry)) at) (entriesIn (drop (nextAt (now (entries .entry)) at) (now (entries .entry))))) (now (out .entry)) r (now (out .exit)) ⌝ }
+{
+    let kind = cells::kind_at(entries, at);
+    if !kinds::is_same(kind, kinds::STATEMENT) {
+        return answer(0, 0, 0);
     }
-}
-
-fn no_lines() -> Lines
-    ensures { λ r. ⌜ r ≡ noLines ⌝ }
-{
-    let none = no_line();
-    Lines {
-        rows: [none; 16],
-        count: 0,
-    }
-}
-
-// A statement, its expression compiled.
-fn line_from(draft: Draft, compiled: Compiled) -> Line
-    ensures { λ r. ⌜ r ≡ lineFrom draft compiled ⌝ }
-{
-    let actions = draft.actions;
-    let words = compiled.words;
-    let code = Code {
-        words,
-        count: compiled.count,
-    };
-    Line {
-        post: draft.post,
-        actions,
-        code,
-    }
-}
-
-fn push_line(lines: Lines, line: Line) -> Lines
-    ensures { λ r. ⌜ r ≡ pushLine lines line ⌝ }
-{
-    let n = lines.count;
-    if n < 16 {
-        let mut all = lines;
-        all.rows[n] = line;
-        all.count = n + 1;
-        return all;
-    }
-    lines
-}
-
-fn stop(number: u32, place: usize) -> Composed
-    ensures { λ r. ⌜ r ≡ stopped number place ⌝ }
-{
-    let lines = no_lines();
-    Composed {
-        fault: Refusal { number, place },
-        lines,
-    }
-}
-
-// How many statements count: no more than there are.
-fn draft_count(drafts: Drafts) -> usize
-    ensures { λ r. ⌜ (r ≡ length (take (drafts .count) (drafts .rows))) × (r ≤ 16) ⌝ }
-{
-    lists::least(drafts.count, 16)
-}
-
-// The statements with their code, or the first whose expression is refused: 11 if it breaks its rules, 12 if a word names no trigger.
-pub(crate) fn compose(file: &[u8], names: Names, drafts: Drafts) -> Composed
-    ensures { λ r. ⌜ r ≡ composed (now (file .entry)) names drafts ⌝ }
-{
-    let n = draft_count(drafts);
-    let rows = drafts.rows;
-    let mut lines = no_lines();
-    let mut i = 0;
-    while i < n {
-        let draft = rows[i];
-        let place = draft.text;
-        let compiled = compile_at(file, names, place);
-        let verdict = compiled.verdict;
-        match verdict {
-            Verdict::Good => {
-                let line = line_from(draft, compiled);
-                lines = push_line(lines, line);
-                i += 1;
-            }
-            Verdict::Broken => {
-                return stop(11, place);
-            }
-            Verdict::Unknown => {
-                return stop(12, place);
-            }
+    let from = cells::next(entries, at);
+    let place = rows::text_from(entries, from);
+    let compiled = compile_at(file, starts, ends, place);
+    let verdict = compiled.verdict;
+    match verdict {
+        Verdict::Good => {
+            let post = cells::number_in(entries, at, attributes::POSTTRIGGER);
+            let count = write_line(post, entries, from, compiled, out);
+            answer(0, 0, count)
         }
+        Verdict::Broken => answer(11, place, 0),
+        Verdict::Unknown => answer(12, place, 0),
     }
-    Composed {
-        fault: Refusal {
-            number: 0,
-            place: 0,
-        },
-        lines,
+}
+
+// The statements, or the first whose expression is refused.
+pub(crate) fn write_statements(
+    file: &[u8],
+    starts: &[usize],
+    ends: &[usize],
+    entries: &[u32],
+    out: &mut [u32],
+) -> Written
+    requires { ⌜ (length (rowsOf (lineRow (now file) (namesIn (now file) (now starts) (now ends))) (entriesIn (now entries))) ≤ length (now out)) × (length (now out) ≤ 1590) ⌝ }
+    ensures { λ r. ⌜ WroteOr (lateFault (now (file .entry)) (namesIn (now (file .entry)) (now (starts .entry)) (now (ends .entry))) (entriesIn (now (entries .entry)))) (rowsOf (lineRow (now (file .entry)) (namesIn (now (file .entry)) (now (starts .entry)) (now (ends .entry)))) (entriesIn (now (entries .entry)))) (now (out .entry)) r (now (out .exit)) ⌝ }
+{
+    let mut n = 0;
+    let mut at = 0;
+    while at < entries.len() {
+        let line = write_statement(file, starts, ends, entries, at, &mut out[n..]);
+        let fault = line.fault;
+        if fault.number != 0 {
+            return answer(fault.number, fault.place, 0);
+        }
+        n += line.count;
+        at = cells::next(entries, at);
     }
+    answer(0, 0, n)
 }

@@ -1,24 +1,23 @@
 -- Entries one behind the other in a buffer of words: they are read back as they were written, and one more goes behind them.
-use Prim.Native.Nat.{ℕ, zero, suc, _+_, _*_, _≤_, _<_}
+use Prim.Native.Nat.{ℕ, zero, suc, _+_, _≤_, _<_}
 use native.Mathlib.Omega.{arith}
-use native.Mathlib.Nat.{le-refl, add-suc, add-zero}
+use native.Mathlib.Nat.{le-refl, add-zero}
 use native.Mathlib.Numerals.{add-one}
 use mathlib.Core.Path.{_≡_, refl, sym, ap, _∙_}
 use mathlib.Core.List.{List, [], _∷_, _++_, append-assoc, append-nil}
-use mathlib.Core.Bool.{true, false, cond}
-use lib.Dec.{leb}
-use lib.ListN.{length, getD, set, take, drop, length-append, length-set}
+use mathlib.Core.Bool.{true, false}
+use lib.ListN.{length, getD, set, take, drop, length-append}
 use lib.Seq.{take-at, drop-at, length-take-le, take-all, take-suc}
 use borrow.Author.Tests.{le-leb, lt-leb}
 use Rattle.lists.specs.Lists.{gathered, Every}
 use Rattle.lists.specs.FillsCode.{Filled}
 use Rattle.lists.proofs.Cases.{by-cases}
 use Rattle.lists.proofs.Fills.{filled-count, filled-one, filled-then}
-use Rattle.schema.specs.SchemaCode.{kindName, isRuled}
+use Rattle.schema.specs.SchemaCode.{attributeCount, kindName, isRuled}
 use Rattle.element.specs.declared.Gathered.{Gathered}
 use Rattle.document.specs.declared.Walk.{Walk}
-use Rattle.document.specs.EntriesCode.{Entry, rowFrom, entryWords, written, rowSize, entryFrom, entriesFrom, entriesIn}
-use Rattle.document.specs.DocumentCode.{FoundSoFar, Index, entered, enteredFound, rowWords, entryBy, found, Formed, Sound, EnteredIs}
+use Rattle.document.specs.EntriesCode.{Entry, entryWords, written, rowWidth, entryMost, rowSize, entryFrom, entriesFrom, entriesIn}
+use Rattle.document.specs.DocumentCode.{entered, rowWords, entryBy, found, Formed, Sound, EnteredIs}
 
 -- ---- read back
 drop-two : (m a b : ℕ) (l : List ℕ) → drop (m + 2) (a ∷ b ∷ l) ≡ drop m l
@@ -69,17 +68,18 @@ written-snoc [] e = append-nil (entryWords e)
 written-snoc (x ∷ es) e =
     ap (λ (l : List ℕ). entryWords x ++ l) (written-snoc es e) ∙ sym (append-assoc (entryWords x) (written es) (entryWords e))
 
-pub row-long : (k p n : ℕ) (g : Gathered) → length (g .values) ≡ 25 → Formed (entryBy k p n g)
+pub row-long : (k p n : ℕ) (g : Gathered) → length (g .values) ≡ attributeCount → Formed (entryBy k p n g)
 unfolding rowSize
 row-long k p n g l = by-cases (isRuled (kindName k)) (λ t. rw t (omega (arith, l))) (λ t. rw t)
 
 module _ (w : Walk) (ms : List ℕ) (s : Sound (w .end) ms) (e : Entry) where
-  pub enters : (ms′ : List ℕ) (end : ℕ) → Formed e → w .end ≤ 3468 → Filled (take (w .end) ms ++ entryWords e) ms ms′ end
+  pub enters : (ms′ : List ℕ) (end : ℕ) → Formed e → w .end ≤ entryMost → Filled (take (w .end) ms ++ entryWords e) ms ms′ end
       → EnteredIs (found w ms) e (w .at) (record { at = w .at; fault = w .fault; end = end; lacking = w .lacking }) ms′
   unfolding found entered
   enters ms′ end f h x =
       let es = s .entries in
-      let a : take end ms′ ≡ written (es ++ (e ∷ [])) = x .words ∙ (ap (λ (l : List ℕ). l ++ entryWords e) (s .words) ∙ sym (written-snoc es e)) in
+      let a : take end ms′ ≡ written (es ++ (e ∷ [])) =
+      x .words ∙ (ap (λ (l : List ℕ). l ++ entryWords e) (s .words) ∙ sym (written-snoc es e)) in
       let z : Sound end ms′ = record {
         entries = es ++ (e ∷ []);
         formed = every-snoc es e (s .formed) f;
@@ -88,15 +88,15 @@ module _ (w : Walk) (ms : List ℕ) (s : Sound (w .end) ms) (e : Entry) where
       } in
       record {
         walks =
-            rw (sound-entries end ms′ z, sound-entries (w .end) ms s, ← s .long, le-leb (w .end) 3468 h);
+            rw (sound-entries end ms′ z, sound-entries (w .end) ms s, ← s .long, le-leb (w .end) entryMost h);
         stays = refl;
         sound = z;
       }
 
-  pub enters-none : 3468 < w .end → EnteredIs (found w ms) e (w .at) w ms
+  pub enters-none : entryMost < w .end → EnteredIs (found w ms) e (w .at) w ms
   unfolding found entered
   enters-none h =
-      record { walks = rw (sound-entries (w .end) ms s, ← s .long, lt-leb (w .end) 3468 h); stays = refl; sound = s }
+      record { walks = rw (sound-entries (w .end) ms s, ← s .long, lt-leb (w .end) entryMost h); stays = refl; sound = s }
 
 -- ---- words put behind those that stand there
 filled-self : (ws : List ℕ) (at : ℕ) → at ≤ length ws → Filled (take at ws) ws ws at
@@ -153,7 +153,7 @@ module _ (ws ms : List ℕ) (at k p n h : ℕ) (g : Gathered) (x : Filled (take 
   pub bare-put : isRuled (kindName k) ≡ false → Filled (take at ws ++ entryWords (entryBy k p n g)) ws ms h
   bare-put t = rw t x
 
-pub row-put : (ws : List ℕ) (at a b : ℕ) (vs ms : List ℕ) (r : ℕ) → at + 27 ≤ length ws
+pub row-put : (ws : List ℕ) (at a b : ℕ) (vs ms : List ℕ) (r : ℕ) → at + rowWidth ≤ length ws
     → Filled (take (at + 2) (set (set ws at a) (at + 1) b) ++ vs) (set (set ws at a) (at + 1) b) ms r
     → Filled (take at ws ++ (a ∷ b ∷ vs)) ws ms r
 row-put ws at a b vs ms r h y =

@@ -4,7 +4,7 @@ use Prim.Native.String.{String}
 use native.Mathlib.Nat.{suc-mul}
 use native.Mathlib.Omega.{arith}
 use mathlib.Core.Path.{_≡_, refl, sym, ap, _∙_}
-use mathlib.Core.List.{List, [], _∷_, _++_, map, append-assoc}
+use mathlib.Core.List.{List, [], _∷_, _++_, map}
 use mathlib.Core.Bool.{true, false, cond, true≢false}
 use lib.Dec.{leb}
 use lib.ListN.{length, length-append, length-set}
@@ -16,15 +16,16 @@ use Rattle.shape.specs.Shape.{Attribute, Node, node, Items}
 use Rattle.schema.specs.declared.Times.{Times}
 use Rattle.schema.specs.declared.Times.the-variants.{Once, OneTo, UpTo}
 use Rattle.schema.specs.Schema.{Rule, Parent, parents, parentIn, oneOf, under, elements, rulesIn, rulesOf}
-use Rattle.schema.specs.SchemaCode.{kindName, kindOf, attributeOf, isRuled, knows}
+use Rattle.schema.specs.SchemaCode.{attributeCount, kindName, kindOf, attributeOf, isRuled, knows}
 use Rattle.schema.proofs.Laws.{in-every-parent}
 use Rattle.file_rules.specs.Element.{Known, Fault, worthBy, goodOf, tooMany, ownFaults}
 use Rattle.element.specs.declared.Gathered.{Gathered}
-use Rattle.element.specs.ElementCode.{nothingGathered, putWorth, unfitted, judged, gatheredList}
-use Rattle.document.specs.EntriesCode.{gatheredOf, entryOf, written, rowSize}
+use Rattle.element.specs.ElementCode.{nothingGathered, judged, gatheredList}
+use Rattle.document.specs.EntriesCode.{gatheredOf, entryOf, written, rowWidth, entryMost, rowSize}
 use Rattle.document.specs.DocumentCode.{Formed}
 use Rattle.lists.specs.BitsCode.{hasBit}
 use Rattle.file_rules.specs.Document.{alsoNamed, knownIn, knownAt, knownElements}
+use Rattle.lists.proofs.Gathers.{gathered-append}
 use Rattle.lists.specs.Lists.{any, gathered}
 
 -- ---- room under a parent, where an element with the name n and all it holds comes to `load n`
@@ -98,11 +99,6 @@ module _ (load : List ℕ → ℕ) where
   room-less cs n earlier c (UpTo m) a b p l i f = times-less cs n m (length earlier) (leb-false m (length earlier) f) (top-most cs n c)
 
 -- ---- no faults
-gathered-append : {X Y : Type 0} (g : X → List Y) (xs ys : List X) → gathered g (xs ++ ys) ≡ gathered g xs ++ gathered g ys
-unfolding gathered
-gathered-append g [] ys = refl
-gathered-append g (x ∷ xs) ys = rw (gathered-append g xs ys) (sym (append-assoc (g x) (gathered g xs) (gathered g ys)))
-
 pub append-none : {Y : Type 0} (xs ys : List Y) → xs ++ ys ≡ [] → (xs ≡ []) × (ys ≡ [])
 append-none [] ys e = (refl, e)
 append-none (x ∷ xs) ys e = absurd (omega (arith, ap length e))
@@ -203,7 +199,8 @@ module _ (unit : List ℕ → ℕ) (settled : Settled unit) where
   few-known x h = let a = few-at x [] [] h in let b = room-is [] in omega (arith, a, b)
 
 -- ---- each counts its words
-judged-long : (rs : List Rule) (g : Gathered) (a : Attribute) → length (g .values) ≡ 25 → length (judged rs g a .values) ≡ 25
+judged-long : (rs : List Rule) (g : Gathered) (a : Attribute) → length (g .values) ≡ attributeCount
+    → length (judged rs g a .values) ≡ attributeCount
 unfolding judged
 judged-long rs g a e =
     by-cases (knows rs (a .name))
@@ -211,19 +208,20 @@ judged-long rs g a e =
     (λ u. rw (t, u) (length-set (g .values) (attributeOf (a .name)) (goodOf (worthBy rs a)) ∙ e)))
     (λ t. rw t e)
 
-values-long : (rs : List Rule) (l : List Attribute) (g : Gathered) → length (g .values) ≡ 25 → length (gatheredList rs l g .values) ≡ 25
+values-long : (rs : List Rule) (l : List Attribute) (g : Gathered) → length (g .values) ≡ attributeCount
+    → length (gatheredList rs l g .values) ≡ attributeCount
 unfolding gatheredList
 values-long rs [] g e = e
 values-long rs (a ∷ l) g e = values-long rs l (judged rs g a) (judged-long rs g a e)
 
-all-long : (k : Known) → length (gatheredOf k .values) ≡ 25
+all-long : (k : Known) → length (gatheredOf k .values) ≡ attributeCount
 unfolding nothingGathered
 all-long k = values-long (rulesOf (k .name)) (k .attributes) nothingGathered refl
 
 abbrev size : List ℕ → ℕ
-size n = 3 + cond (isRuled n) 27 0
+size n = 3 + cond (isRuled n) rowWidth 0
 
-row-is : (k : Known) → length (entryOf k .row) ≡ cond (isRuled (k .name)) 27 0
+row-is : (k : Known) → length (entryOf k .row) ≡ cond (isRuled (k .name)) rowWidth 0
 row-is k = by-cases (isRuled (k .name)) (λ t. rw t (omega (arith, all-long k))) (λ t. rw t)
 
 pub kept-formed : (k : Known) → kindName (kindOf (k .name)) ≡ k .name → Formed (entryOf k)
@@ -239,7 +237,7 @@ sum-size (k ∷ ks) =
     let l = length-append (entryOf k .row) (written (map entryOf ks)) in
     omega (arith, h, r, l)
 
-pub few : (x : Node) → Clean (knownElements x) → length (written (map entryOf (knownElements x))) ≤ 3468
+pub few : (x : Node) → Clean (knownElements x) → length (written (map entryOf (knownElements x))) ≤ entryMost
 unfolding most left top parentIn parents isRuled rulesIn elements any bytes same
 few x h =
     let a = few-known size refl x h in

@@ -3,23 +3,25 @@ use Prim.Native.Nat.{ℕ, zero, suc, _-_, _≤_, _<_}
 use native.Mathlib.Omega.{arith}
 use mathlib.Core.Path.{_≡_, refl, sym, ap, _∙_, subst}
 use mathlib.Core.List.{List, _++_}
-use mathlib.Core.Bool.{Bool, true, false, _||_}
-use lib.Dec.{ltb}
-use lib.ListN.{length}
+use mathlib.Core.Bool.{Bool, true, false, _||_, or-true, or-false}
+use lib.ListN.{length, getD}
 use lib.Seq.{slice}
-use borrow.Author.Tests.{ltb-true, ltb-false}
-use Rattle.text.specs.Kinds.{isBlank}
-use Rattle.lists.proofs.Cases.{by-cases}
+use Rattle.text.specs.Kinds.{isBlank, isText}
+use Rattle.text.proofs.Spans.{span-here, span-end, span-low, low-of, stop-of, wider-of}
+use Rattle.text.proofs.Chains.{blank-text}
+use Rattle.lists.proofs.Cases.{le-or-lt}
 use Rattle.shape.specs.Shape.{Node, node, Items}
 use Rattle.walk.specs.declared.Item.{Item}
 use Rattle.walk.specs.declared.Body.{Body}
 use Rattle.shape.specs.Text.{joined}
+use Rattle.shape.proofs.Bytes.{text-60}
 use Rattle.walk.specs.StandsCode.{ElementAt, ContentStands}
-use Rattle.walk.specs.WalkCode.{past, itemAt, contentAt, skipped, walkItems, texting, innerStart, textAt, stray}
+use Rattle.walk.specs.WalkCode.{past, itemAt, contentAt, skipped, walkItems, texting, innerStart, textIn, textAt, stray}
 use Rattle.walk.proofs.Bounds.{item-over, item-from}
+use Rattle.walk.proofs.WalkAnswers.{item-text}
 use Rattle.walk.proofs.Turns as walks
 use Rattle.walk.proofs.WalkLaws.{BodyTold, content-law, item-law, skip-law, text-law, element-deep}
-use Rattle.walk.proofs.Strays.{stray-start, stray-blank, stray-found}
+use Rattle.walk.proofs.Strays.{StrayTurn, stray-start, stray-blank, stray-found}
 use Rattle.document.specs.declared.Inside.{Inside}
 use Rattle.document.specs.declared.Seen.{Seen}
 use Rattle.document.specs.DocumentCode.{FoundSoFar, noneSeen, marked, isOver, closedWalk, childAt, visitBody, visitFrom, found, Sound, Ready, InsideIs}
@@ -68,7 +70,7 @@ module _ (f : List ℕ) (left i : ℕ) (ms : List ℕ) (z : Ready f (suc left) i
 
   pub inner-start : (o j : ℕ) (k : ℕ) (s : Seen) (r : FoundSoFar) → contentAt f i ≡ Body.Open o → j ≡ o → s ≡ noneSeen
       → Inner f left i k j s r false (visitBody (visitFrom f left) f k r (contentAt f i))
-  unfolding innerStart
+  unfolding innerStart textAt
   inner-start o j k s r e p y =
       let t = body-told f left i (z .node) (z .end) (z .stands) (Body.Open o) (sym e) in
       rw p
@@ -76,7 +78,7 @@ module _ (f : List ℕ) (left i : ℕ) (ms : List ℕ) (z : Ready f (suc left) i
         turn = inside-open f i left k r (Body.Open o) (sym e) o s refl y;
         items = t .0;
         stands = rw end-is (t .1);
-        strays = stray-start f i o (sym (ap (innerStart f) e));
+        strays = subst (λ (c : Body). StrayTurn f (stray (textIn f c)) o) (sym e) (stray-start f o);
       }
 
   -- an element without content
@@ -95,18 +97,27 @@ module _ (f : List ℕ) (left i : ℕ) (ms : List ℕ) (z : Ready f (suc left) i
   pub broken-none : Body.Broken ≡ contentAt f i → ⊥
   broken-none e = body-told f left i (z .node) (z .end) (z .stands) Body.Broken e .1
 
--- what a run of text adds to the flag
-module _ (f : List ℕ) (j k e : ℕ) (h : k ≤ length f) (x : e ≡ past isBlank f j) (a : List ℕ) where
-  or-text : (b : Bool) → (b || stray (slice j k f ++ a)) ≡ (b || ltb e k || stray a)
-  or-text true = refl
-  or-text false =
-      by-cases (ltb e k)
-      (λ t. stray-found f k h a j (omega (arith, ltb-true e k t)) ∙ rw t)
-      (λ t. stray-blank f k h a j (omega (arith, ltb-false e k t)) ∙ rw t)
+-- ---- blanks are passed: what stands behind them
+text-item : (f : List ℕ) (j k : ℕ) → k ≡ past isText f j → j < k → Item.Text k ≡ itemAt f j
+text-item f j k e h =
+    sym (item-text f j (getD f j 0) refl k e
+    (λ z. le-or-lt (length f) j
+    (λ l. absurd (omega (arith, span-end isText f j l)))
+    (λ l. absurd (omega (arith, span-here isText f j l (ap isText z ∙ text-60))))) h)
 
-or-none : (b : Bool) → b ≡ b || false
-or-none true = refl
-or-none false = refl
+-- there are none, or they are a whole text, or the text goes on behind them
+blanks-item : {A : Type 0} (f : List ℕ) (j e : ℕ) → e ≡ past isBlank f j → (e ≡ j → A) → (Item.Text e ≡ itemAt f j → A)
+    → ((k : ℕ) → e < k → Item.Text k ≡ itemAt f j → Item.Text k ≡ itemAt f e → A) → A
+blanks-item f j e x none whole on =
+    let k = past isText f e in
+    let w : k ≡ past isText f j = wider-of isBlank f j e x isText blank-text in
+    let l = low-of isBlank f j e x in
+    let m = span-low isText f e in
+    le-or-lt e j
+    (λ h. none (omega arith))
+    (λ h. le-or-lt k e
+    (λ g. whole (text-item f j e (omega arith) h))
+    (λ g. on k g (text-item f j k w (omega arith)) (text-item f e k refl g)))
 
 -- the steps of the loop, by what stands next
 module _ (f : List ℕ) (left i : ℕ) (q : ℕ) (j : ℕ) (s : Seen) (r : FoundSoFar) (b : Bool) (whole : FoundSoFar)
@@ -117,62 +128,98 @@ module _ (f : List ℕ) (left i : ℕ) (q : ℕ) (j : ℕ) (s : Seen) (r : Found
   pub inner-broken : Item.Broken ≡ itemAt f j → ⊥
   inner-broken e = item-law f left j (z .items) (skipped f i) (z .stands) Item.Broken e
 
-  module _ (h : j < length f) where
-    abbrev flagged : List ℕ → Bool
-    flagged a = b || stray a
+  within : j < length f
+  within = le-or-lt (length f) j (λ h. absurd (inner-over h)) (λ h. h)
 
-    pub inner-text : (k e : ℕ) → Item.Text k ≡ itemAt f j → e ≡ past isBlank f j → Inner f left i q k s r (b || ltb e k) whole
-    inner-text k e p x =
-        let t = item-law f left j (z .items) (skipped f i) (z .stands) (Item.Text k) p in
-        record {
-          turn = on-text f left q j s r whole (z .turn) h k p;
-          items = t .0;
-          stands = t .2;
-          strays =
-              walks.on-text (texting f) f flagged j (stray (textAt f i)) (z .strays) (λ a. b || ltb e k || stray a) k h p
-              (λ a. or-text f j k e ((item-from f j (Item.Text k) p) .1) x a b);
-        }
+  abbrev flagged : List ℕ → Bool
+  flagged a = b || stray a
 
-    pub inner-remark : (k : ℕ) → Item.Remark k ≡ itemAt f j → Inner f left i q k s r b whole
-    inner-remark k p =
-        let t = item-law f left j (z .items) (skipped f i) (z .stands) (Item.Remark k) p in
-        record {
-          turn = on-remark f left q j s r whole (z .turn) h k p;
-          items = t .0;
-          stands = t .2;
-          strays = walks.on-remark (texting f) f flagged j (stray (textAt f i)) (z .strays) k h p;
-        }
+  -- c is the flag behind the text
+  inner-text : (k : ℕ) (c : Bool) → Item.Text k ≡ itemAt f j → ((a : List ℕ) → (b || stray (slice j k f ++ a)) ≡ (c || stray a))
+      → Inner f left i q k s r c whole
+  inner-text k c p x =
+      let t = item-law f left j (z .items) (skipped f i) (z .stands) (Item.Text k) p in
+      record {
+        turn = on-text f left q j s r whole (z .turn) within k p;
+        items = t .0;
+        stands = t .2;
+        strays = walks.on-text (texting f) f flagged j (stray (textAt f i)) (z .strays) (λ a. c || stray a) k within p x;
+      }
 
-    -- a child may be visited
-    pub child-ready : (ms ms′ : List ℕ) → Ready f (suc left) i ms → length ms′ ≡ length ms → Item.Child ≡ itemAt f j → Ready f left j ms′
-    child-ready ms ms′ y l p =
-        let t = item-law f left j (z .items) (skipped f i) (z .stands) Item.Child p in
-        let w = y .shallow in
-        record { room = l ∙ y .room; short = y .short; shallow = omega arith; node = t .0; end = t .2; stands = t .4 }
+  inner-stray : (k : ℕ) → Item.Text k ≡ itemAt f j → past isBlank f j < k → Inner f left i q k s r true whole
+  inner-stray k p h =
+      inner-text k true p
+      (λ a. ap (λ (c : Bool). b || c) (stray-found f k (item-from f j (Item.Text k) p .1) a j h) ∙ or-true b)
 
-    -- c is the child's kind, o whether it is one too many, v what its visit gave, m the marks then, k behind it
-    pub inner-child : suc left ≤ 8 → (c : ℕ) (o : Bool) (v : FoundSoFar) (m : Seen) (k : ℕ) → Item.Child ≡ itemAt f j → c ≡ childAt f j q
-        → o ≡ isOver q c s → v ≡ visitFrom f left j c o r → m ≡ marked s c → k ≡ skipped f j → Inner f left i q k m v b whole
-    inner-child y c o v m k p x₁ x₂ x₃ x₄ x₅ =
-        let t = item-law f left j (z .items) (skipped f i) (z .stands) Item.Child p in
-        let e : k ≡ t .2 = x₅ ∙ skip-law f left j (t .0) (t .2) (t .4) (omega arith) in
-        let g = t .4 .before in
-        record {
-          turn = on-child f left q j s r whole (z .turn) h c o v m k p x₁ x₂ x₃ x₄ x₅;
-          items = t .1;
-          stands = rw e (t .5);
-          strays = walks.on-child (texting f) f flagged j (stray (textAt f i)) (z .strays) k h p x₅ (omega (arith, e, g));
-        }
+  inner-blank : (k : ℕ) → Item.Text k ≡ itemAt f j → k ≤ past isBlank f j → Inner f left i q k s r b whole
+  inner-blank k p h =
+      inner-text k b p (λ a. ap (λ (c : Bool). b || c) (stray-blank f k (item-from f j (Item.Text k) p .1) a j h))
 
-    -- at the end tag, behind which k is
-    pub inner-leaves : (k : ℕ) (v : Inside) (ms : List ℕ) (r′ : FoundSoFar) → Item.Close k ≡ itemAt f j
-        → found (v .walk) ms ≡ closedWalk r q s → v .walk .at ≡ k → v .stray ≡ b → Sound (v .walk .end) ms → whole ≡ r′ → InsideIs f i r′ v ms
-    unfolding stray
-    inner-leaves k v ms r′ p w g y z₂ x =
-        let t = item-law f left j (z .items) (skipped f i) (z .stands) (Item.Close k) p in
-        record {
-          walks = on-close f left q j s r whole (z .turn) h k (found (v .walk) ms) p w ∙ x;
-          ends = g ∙ t .1;
-          strays = y ∙ (or-none b ∙ walks.on-close (texting f) f flagged j (stray (textAt f i)) (z .strays) k h p);
-          sound = z₂;
-        }
+  pub inner-remark : (k : ℕ) → Item.Remark k ≡ itemAt f j → Inner f left i q k s r b whole
+  inner-remark k p =
+      let t = item-law f left j (z .items) (skipped f i) (z .stands) (Item.Remark k) p in
+      record {
+        turn = on-remark f left q j s r whole (z .turn) within k p;
+        items = t .0;
+        stands = t .2;
+        strays = walks.on-remark (texting f) f flagged j (stray (textAt f i)) (z .strays) k within p;
+      }
+
+  -- a child may be visited
+  pub child-ready : (ms ms′ : List ℕ) → Ready f (suc left) i ms → length ms′ ≡ length ms → Item.Child ≡ itemAt f j → Ready f left j ms′
+  child-ready ms ms′ y l p =
+      let t = item-law f left j (z .items) (skipped f i) (z .stands) Item.Child p in
+      let w = y .shallow in
+      record { room = l ∙ y .room; short = y .short; shallow = omega arith; node = t .0; end = t .2; stands = t .4 }
+
+  -- c is the child's kind, o whether it is one too many, v what its visit gave, m the marks then, k behind it
+  pub inner-child : suc left ≤ 8 → (c : ℕ) (o : Bool) (v : FoundSoFar) (m : Seen) (k : ℕ) → Item.Child ≡ itemAt f j → c ≡ childAt f j q
+      → o ≡ isOver q c s → v ≡ visitFrom f left j c o r → m ≡ marked s c → k ≡ skipped f j → Inner f left i q k m v b whole
+  inner-child y c o v m k p x₁ x₂ x₃ x₄ x₅ =
+      let t = item-law f left j (z .items) (skipped f i) (z .stands) Item.Child p in
+      let e : k ≡ t .2 = x₅ ∙ skip-law f left j (t .0) (t .2) (t .4) (omega arith) in
+      let g = t .4 .before in
+      record {
+        turn = on-child f left q j s r whole (z .turn) within c o v m k p x₁ x₂ x₃ x₄ x₅;
+        items = t .1;
+        stands = rw e (t .5);
+        strays = walks.on-child (texting f) f flagged j (stray (textAt f i)) (z .strays) k within p x₅ (omega (arith, e, g));
+      }
+
+  -- at the end tag, behind which k is
+  pub inner-leaves : (k : ℕ) (v : Inside) (ms : List ℕ) (r′ : FoundSoFar) → Item.Close k ≡ itemAt f j
+      → found (v .walk) ms ≡ closedWalk r q s → v .walk .at ≡ k → v .stray ≡ b → Sound (v .walk .end) ms → whole ≡ r′ → InsideIs f i r′ v ms
+  unfolding stray
+  inner-leaves k v ms r′ p w g y z₂ x =
+      let t = item-law f left j (z .items) (skipped f i) (z .stands) (Item.Close k) p in
+      record {
+        walks = on-close f left q j s r whole (z .turn) within k (found (v .walk) ms) p w ∙ x;
+        ends = g ∙ t .1;
+        strays = y ∙ (sym (or-false b) ∙ walks.on-close (texting f) f flagged j (stray (textAt f i)) (z .strays) k within p);
+        sound = z₂;
+      }
+
+-- behind the blanks: text is stray, and before anything else nothing was passed over
+module _ (f : List ℕ) (left i q : ℕ) (s : Seen) (r : FoundSoFar) (b : Bool) (whole : FoundSoFar) (e : ℕ) where
+  abbrev Passed : Item → Type 0
+  Passed (Item.Text k) = Inner f left i q k s r true whole
+  Passed (Item.Remark k) = Inner f left i q e s r b whole
+  Passed Item.Child = Inner f left i q e s r b whole
+  Passed (Item.Close k) = Inner f left i q e s r b whole
+  Passed Item.Broken = Inner f left i q e s r b whole
+
+  passed-by : past isBlank f e ≡ e → Inner f left i q e s r b whole → (p : Item) → p ≡ itemAt f e → Passed p
+  passed-by x z (Item.Text k) y = inner-stray f left i q e s r b whole z k y (omega (arith, x, item-from f e (Item.Text k) y .0))
+  passed-by x z (Item.Remark k) y = z
+  passed-by x z Item.Child y = z
+  passed-by x z (Item.Close k) y = z
+  passed-by x z Item.Broken y = z
+
+  pub inner-passed : (j : ℕ) → Inner f left i q j s r b whole → e ≡ past isBlank f j → (p : Item) → p ≡ itemAt f e → Passed p
+  inner-passed j z x p y =
+      let n : past isBlank f e ≡ e =
+      le-or-lt (length f) e (span-end isBlank f e) (λ h. span-here isBlank f e h (stop-of isBlank f j e x h)) in
+      blanks-item f j e x
+      (λ h. passed-by n (subst (λ (k : ℕ). Inner f left i q k s r b whole) (sym h) z) p y)
+      (λ t. passed-by n (inner-blank f left i q j s r b whole z e t (omega (arith, x))) p y)
+      (λ k h t u. subst Passed (u ∙ sym y) (inner-stray f left i q j s r b whole z k t (omega (arith, x, h))))

@@ -25,7 +25,7 @@ use Rattle.schema.proofs.Laws.{kind-carried}
 use Rattle.file_rules.specs.Element.{Known, Fault, _at_if_, ownFaults}
 use Rattle.element.specs.ElementCode.{firstNumber}
 use Rattle.element.proofs.Laws.{fault-place, no-fault}
-use Rattle.document.specs.EntriesCode.{Entry, entryOf, written}
+use Rattle.document.specs.EntriesCode.{Entry, entryOf, written, entryMost}
 use Rattle.file_rules.specs.Document.{knownElements, knownIn, knownAt, lacks, elementFaults}
 use Rattle.document.specs.DocumentCode.{Index, absorbed, absorb, entered, refusedIndex, FoundSoFar, empty, indexOf, noneSeen, isOver, childAt, visitFrom, noneFound, indexAt, indexed, Indexes}
 use Rattle.document.proofs.Absorbs.{absorb-still, absorb-enter, absorb-refuse}
@@ -35,10 +35,10 @@ use Rattle.document.proofs.Few.{Clean, clean-first, few}
 use Rattle.lists.specs.Lists.{any, gathered}
 
 -- ---- the fold, if there is no fault
-pub enter-one : (done : List Known) (k : Known) → length (written (map entryOf done)) ≤ 3468
+pub enter-one : (done : List Known) (k : Known) → length (written (map entryOf done)) ≤ entryMost
     → entered (indexOf done) (entryOf k) ≡ indexOf (done ++ (k ∷ []))
 unfolding entered indexOf
-enter-one done k h = rw (le-leb (length (written (map entryOf done))) 3468 h, map-append entryOf done (k ∷ []))
+enter-one done k h = rw (le-leb (length (written (map entryOf done))) entryMost h, map-append entryOf done (k ∷ []))
 
 enter-first : (done : List Known) (k : Known) → ownFaults k ≡ [] → absorbed k (indexOf done) ≡ entered (indexOf done) (entryOf k)
 unfolding indexOf firstNumber
@@ -54,7 +54,7 @@ written-some (d ∷ done) ks =
     let b = length-append (entryOf d .row) (written (map entryOf done)) in
     omega (arith, h, a, b)
 
-pub absorb-all : (done ks : List Known) → Clean ks → length (written (map entryOf (done ++ ks))) ≤ 3468
+pub absorb-all : (done ks : List Known) → Clean ks → length (written (map entryOf (done ++ ks))) ≤ entryMost
     → absorb ks (indexOf done) ≡ indexOf (done ++ ks)
 unfolding absorb
 absorb-all done [] c h = ap indexOf (sym (append-nil done))
@@ -69,7 +69,7 @@ index-number : (ks : List Known) → indexOf ks .fault .number ≡ 0
 unfolding indexOf
 index-number ks = refl
 
-clean-index : (ks : List Known) → Clean ks → length (written (map entryOf ks)) ≤ 3468 → absorb ks empty ≡ indexOf ks
+clean-index : (ks : List Known) → Clean ks → length (written (map entryOf ks)) ≤ entryMost → absorb ks empty ≡ indexOf ks
 unfolding indexOf
 clean-index ks c h = absorb-all [] ks c h
 
@@ -84,7 +84,7 @@ head-of {a = a} e = ap (λ l. getD l 0 a) e
 
 entered-number : (x : Index) (e : Entry) → entered x e .fault .number ≡ x .fault .number
 unfolding entered
-entered-number x e = by-cases (leb (length (written (x .entries))) 3468) (λ t. rw t) (λ t. rw t)
+entered-number x e = by-cases (leb (length (written (x .entries))) entryMost) (λ t. rw t) (λ t. rw t)
 
 absorb-at : (k : Known) (ks : List Known) (x : Index) → x .fault .number ≡ 0 → (a : Fault) (l fs : List Fault) → ownFaults k ≡ fs
     → fs ++ gathered ownFaults ks ≡ a ∷ l
@@ -124,7 +124,7 @@ fault-number (k ∷ ks) a l g z = number-at k ks a l (ownFaults k) refl g (fault
 
 -- ---- the answer, for what the visit of the root gave
 module _ (i : ℕ) (ks : List Known) (r : FoundSoFar) (s : Agrees ks r noneFound) where
-  settled : (fs : List Fault) → gathered ownFaults ks ≡ fs → (Clean ks → length (written (map entryOf ks)) ≤ 3468) → (gs : List Fault)
+  settled : (fs : List Fault) → gathered ownFaults ks ≡ fs → (Clean ks → length (written (map entryOf ks)) ≤ entryMost) → (gs : List Fault)
       → gs ≡ fs ++ 8 at i if any lacks ks → Settles gs ks (indexAt i r)
   unfolding indexAt
   settled (a ∷ l) g h gs e =

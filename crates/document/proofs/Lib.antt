@@ -1,4 +1,4 @@
--- Marks: the entries as marks. Turns, Insides, Visits: the walk. Seens: what a parent holds. Absorbs: the first fault stays. Few: how
+-- Entries: the entries as words. Turns, Insides, Visits: the walk. Seens: what a parent holds. Absorbs: the first fault stays. Few: how
 -- many known elements there can be. Stood: where they stand. `Laws` says that the index is that of the document, or its first fault.
 pub mod Entries
 pub mod Turns

@@ -10,13 +10,14 @@ use borrow.Author.Tests.{eq-eqb, ne-eqb, not-true, not-false}
 use Rattle.lists.proofs.Parts.{and-right}
 use Rattle.walk.specs.declared.Item.{Item}
 use Rattle.walk.specs.declared.Body.{Body}
-use Rattle.walk.specs.WalkCode.{itemAt, contentAt, skipped, rootAt, textAt, stray}
+use Rattle.walk.specs.WalkCode.{itemAt, nameAt, contentBehind, contentAt, skipped, rootAt, textIn, textAt, stray}
 use Rattle.walk.proofs.Bounds.{item-from, skipped-bounds}
 use Rattle.walk.proofs.Turns.{Turn, start, next, done}
 use Rattle.schema.specs.SchemaCode.{kindName, kindCount, isCarried, isBarred}
 use Rattle.schema.proofs.Laws.{known-low}
 use Rattle.element.specs.declared.Gathered.{Gathered}
-use Rattle.element.specs.ElementCode.{rulesFor, gatheredAt, badText, misspelt, textNumber, worded, ownFault, tagFault}
+use Rattle.element.specs.declared.fields.Said.{Said}
+use Rattle.element.specs.ElementCode.{rulesFor, gatheredBehind, gatheredAt, shortIn, said, saidAt, worded, badIn, badText, ownFault, tagFault}
 use Rattle.element.proofs.Wordings.{fault-some, fault-text}
 use Rattle.document.specs.declared.Seen.{Seen}
 use Rattle.document.specs.declared.Walk.{Walk}
@@ -98,27 +99,7 @@ unfolding looked
 looked-low r k b e t =
     known-low k (and-right (eqb (r .index .fault .number) 0) (isCarried (kindName k) || isBarred (kindName k)) (sym e ∙ not-false b t))
 
--- what the code judges is the element at i
-judged-is : (f : List ℕ) (i k : ℕ) (o t : Bool) (g : Gathered) (n : ℕ) → n ≡ firstFault k o t g → g ≡ gatheredAt (rulesFor k) f i
-    → n ≡ firstFault k o t (gatheredAt (rulesFor k) f i)
-judged-is f i k o t g n e x = e ∙ ap (firstFault k o t) x
-
-pub fault-is : (f : List ℕ) (i k : ℕ) (o t : Bool) (g : Gathered) (n : ℕ) → n ≡ firstFault k o t g → g ≡ gatheredAt (rulesFor k) f i
-    → t ≡ badText k f i → n ≡ faultAt f i k o
-fault-is f i k o t g n e x y = judged-is f i k o t g n e x ∙ ap (λ (b : Bool). firstFault k o b (gatheredAt (rulesFor k) f i)) y
-
-pub tag-fault-is : (f : List ℕ) (i k : ℕ) (o t : Bool) (g : Gathered) (n : ℕ) → n ≡ firstFault k o t g → g ≡ gatheredAt (rulesFor k) f i
-    → t ≡ misspelt k f i → n ≡ tagFaultAt f i k o
-tag-fault-is f i k o t g n e x y = judged-is f i k o t g n e x ∙ ap (λ (b : Bool). firstFault k o b (gatheredAt (rulesFor k) f i)) y
-
--- what the code entered is what is kept of the element at i
-pub entered-is : (f : List ℕ) (i k n : ℕ) (g : Gathered) (v r : FoundSoFar) → n ≡ textNumber k f i → g ≡ gatheredAt (rulesFor k) f i
-    → v ≡ enteredFound r (entryBy k i n g) → v ≡ enteredFound r (entryAt f i k)
-unfolding entryAt
-entered-is f i k n g v r x y z =
-    z ∙ (ap (λ (m : ℕ). enteredFound r (entryBy k i m g)) x ∙ ap (λ (h : Gathered). enteredFound r (entryBy k i (textNumber k f i) h)) y)
-
--- the fault of an element, by what its tag tells (m) and whether text that is not read is stray
+-- the fault of an element, by what its tag tells, m
 module _ (f : List ℕ) (i k m : ℕ) where
   fault-split : (a over : Bool) → a ≡ isBarred (kindName k) → m ≡ tagFaultAt f i k over → m ≡ 0
       → (tagFault k f i ≡ 0) × (faultAt f i k over ≡ ownFault k f i)
@@ -133,20 +114,60 @@ module _ (f : List ℕ) (i k m : ℕ) where
   fault-kept false true a e h z = absurd (omega (arith, rw (← a) at z))
   fault-kept false false a e h z = fault-some f i k (λ y. h (e ∙ rw (← a) y)) (rw (← a) at z)
 
-  module _ (over : Bool) (e : m ≡ tagFaultAt f i k over) where
-    pub tag-fault-kept : (m ≡ 0 → ⊥) → (n : ℕ) → n ≡ faultAt f i k over → n ≡ 0 → ⊥
-    tag-fault-kept h n g z = fault-kept (isBarred (kindName k)) over refl e h (sym g ∙ z)
+-- what was read of the element at i, of the kind k: its attributes, its content, and what its text says
+pub record Read (f : List ℕ) (i k : ℕ) (g : Gathered) (b : Body) (s : Said) : Type 0 where
+  pub attributes : g ≡ gatheredAt (rulesFor k) f i
+  pub content : b ≡ contentAt f i
+  pub text : s ≡ saidAt k f i
 
-    module _ (z : m ≡ 0) (w b : Bool) (hw : w ≡ worded k) (hb : b ≡ stray (textAt f i)) where
-      text-fault : faultAt f i k over ≡ cond (not w && b) 6 0
+pub read-here : (f : List ℕ) (i to k : ℕ) (g : Gathered) (b : Body) (s : Said) → to ≡ nameAt f i .to → g ≡ gatheredBehind (rulesFor k) f to
+    → b ≡ contentBehind f to → s ≡ said k (shortIn f b) → Read f i k g b s
+unfolding gatheredAt contentAt textAt
+read-here f i to k g b s e x y z =
+    let c : b ≡ contentAt f i = y ∙ ap (contentBehind f) e in
+    record {
+      attributes = x ∙ ap (gatheredBehind (rulesFor k) f) e;
+      content = c;
+      text = z ∙ ap (λ (a : Body). said k (shortIn f a)) c;
+    }
+
+module _ (f : List ℕ) (i k : ℕ) (g : Gathered) (b : Body) (s : Said) (x : Read f i k g b s) where
+  -- what the code entered is what is kept of it
+  pub entered-is : (v r : FoundSoFar) → v ≡ enteredFound r (entryBy k i (s .number) g) → v ≡ enteredFound r (entryAt f i k)
+  unfolding entryAt
+  entered-is v r z =
+      z ∙ (ap (λ (t : Said). enteredFound r (entryBy k i (t .number) g)) (x .text)
+      ∙ ap (λ (h : Gathered). enteredFound r (entryBy k i (saidAt k f i .number) h)) (x .attributes))
+
+  -- the fault that its tag tells
+  module _ (over : Bool) (m : ℕ) (told : m ≡ firstFault k over (s .misspelt) g) where
+    judged-is : (t u : Bool) → t ≡ u → firstFault k over t g ≡ firstFault k over u (gatheredAt (rulesFor k) f i)
+    judged-is t u e = ap (λ (v : Bool). firstFault k over v g) e ∙ ap (firstFault k over u) (x .attributes)
+
+    tag-fault : m ≡ tagFaultAt f i k over
+    tag-fault = told ∙ judged-is (s .misspelt) (saidAt k f i .misspelt) (ap (λ (t : Said). t .misspelt) (x .text))
+
+    -- with its whole text there is one too
+    pub refuses : (m ≡ 0 → ⊥) → (t : Bool) → t ≡ badIn k (s .misspelt) (textIn f b) → (n : ℕ) → n ≡ firstFault k over t g
+        → (n ≡ faultAt f i k over) × (n ≡ 0 → ⊥)
+    unfolding textAt
+    refuses h t y n z =
+        let u : t ≡ badText k f i =
+        y ∙ (ap (λ (r : Said). badIn k (r .misspelt) (textIn f b)) (x .text)
+        ∙ ap (λ (c : Body). badIn k (saidAt k f i .misspelt) (textIn f c)) (x .content)) in
+        let e : n ≡ faultAt f i k over = z ∙ judged-is t (badText k f i) u in
+        (e, λ w. fault-kept f i k m (isBarred (kindName k)) over refl tag-fault h (sym e ∙ w))
+
+    module _ (z : m ≡ 0) (w a : Bool) (hw : w ≡ worded k) (ha : a ≡ stray (textAt f i)) where
+      text-fault : faultAt f i k over ≡ cond (not w && a) 6 0
       text-fault =
-          let t = fault-split (isBarred (kindName k)) over refl e z in
-          t .1 ∙ rw (hw, hb) (fault-text f i k (t .0))
+          let t = fault-split f i k m (isBarred (kindName k)) over refl tag-fault z in
+          t .1 ∙ rw (hw, ha) (fault-text f i k (t .0))
 
-      pub stray-fault : not w && b ≡ true → 6 ≡ faultAt f i k over
+      pub stray-fault : not w && a ≡ true → 6 ≡ faultAt f i k over
       stray-fault t = sym (text-fault ∙ rw t)
 
-      pub no-fault : not w && b ≡ false → 0 ≡ faultAt f i k over
+      pub no-fault : not w && a ≡ false → 0 ≡ faultAt f i k over
       no-fault t = sym (text-fault ∙ rw t)
 
 -- behind a fault the words tell nothing

@@ -3,12 +3,11 @@ use Prim.Native.Nat.{ℕ, zero, suc, _+_, _≤_, _<_}
 use native.Mathlib.Omega.{arith}
 use mathlib.Core.Path.{_≡_, refl, sym, ap, _∙_, subst}
 use mathlib.Core.List.{List, [], _∷_}
-use mathlib.Core.Bool.{Bool, true, false, cond, _||_, true≢false}
+use mathlib.Core.Bool.{Bool, true, false, _||_}
 use lib.Dec.{eqb}
 use lib.ListN.{length}
 use lib.Seq.{slice}
 use borrow.Author.Tests.{ne-eqb, eqb-true, eqb-false}
-use Rattle.text.specs.Texts.{bytes, same}
 use Rattle.lists.proofs.Cases.{by-cases, le-or-lt}
 use Rattle.shape.specs.Shape.{Attribute, Node, node, Items}
 use Rattle.walk.specs.declared.Item.{Item}
@@ -18,11 +17,11 @@ use Rattle.walk.specs.StandsCode.{ElementAt, ContentStands, texted}
 use Rattle.walk.proofs.Bounds.{item-over}
 use Rattle.walk.proofs.WalkLaws.{element-law, element-deep, ItemTold, item-law, BodyTold, content-law, skip-law}
 use Rattle.schema.specs.Schema.{Parent, oneOf, under, rulesOf}
-use Rattle.schema.specs.SchemaCode.{kindName, kindUnder, isCarried, isBarred}
+use Rattle.schema.specs.SchemaCode.{kindName, kindUnder}
 use Rattle.schema.proofs.Laws.{carried-held, carried-not-barred, barred-not-carried, kind-is, kind-named, kind-carried, kind-barred}
-use Rattle.file_rules.specs.Element.{Known, goodOf, channelOf, ownFaults, tooMany}
+use Rattle.file_rules.specs.Element.{Known, ownFaults, tooMany}
 use Rattle.element.specs.declared.Gathered.{Gathered}
-use Rattle.element.specs.ElementCode.{rulesFor, nothingGathered, gatheredAt, gatheredList, textNumber, ownFault, firstNumber}
+use Rattle.element.specs.ElementCode.{rulesFor, nothingGathered, gatheredAt, gatheredList, ownFault, firstNumber}
 use Rattle.element.proofs.Laws.{fault-law, over-law, barred-law, gather-law, channel-law}
 use Rattle.document.specs.EntriesCode.{rowFrom, gatheredOf, entryOf}
 use Rattle.document.specs.declared.Seen.{Seen}
@@ -198,13 +197,13 @@ module _ (f : List ℕ) where
 
         -- what is kept of it
         kept : entryAt f i (kindUnder q n) ≡ entryOf K
-        unfolding entryAt textNumber
+        unfolding entryAt
         kept =
             let a = kind-is q n (carried-held (kindName q) n c) in
-            let b : textNumber (kindUnder q n) f i ≡ cond (same n (bytes "CHANNEL")) (goodOf (channelOf K)) 0 =
-            rw (named, channel-law K f d e y deep short) in
+            let b = channel-law K f d e y deep short (kindUnder q n) (sym named) in
             let g : gatheredAt (rulesFor (kindUnder q n)) f i ≡ gatheredOf K =
-            gather-law f d i i n l t e y (rulesFor (kindUnder q n)) ∙ ap (λ (m : List ℕ). gatheredList (rulesOf m) l nothingGathered) named in
+            gather-law f d i i n l t e y (rulesFor (kindUnder q n))
+            ∙ ap (λ (m : List ℕ). gatheredList (rulesOf m) l nothingGathered) named in
             let w : rowFrom (kindName (kindUnder q n)) (gatheredAt (rulesFor (kindUnder q n)) f i) ≡ rowFrom n (gatheredOf K) =
             ap (λ (x : Gathered). rowFrom (kindName (kindUnder q n)) x) g ∙ ap (λ (m : List ℕ). rowFrom m (gatheredOf K)) named in
             λ j. record { kind = a j; place = i; number = b j; row = w j }
@@ -212,13 +211,14 @@ module _ (f : List ℕ) where
         -- without a fault it is entered, and what it holds is visited
         enters : eqb (r .index .fault .number) 0 ≡ true → firstNumber (ownFaults K) ≡ 0 → (v : FoundSoFar)
             → AgreesIn (knownIn (under (kindName (kindUnder q n))) [] t)
-            (unmet (under (kindName (kindUnder q n))) (held (under (kindName (kindUnder q n))) [] t)) v (enteredFound r (entryAt f i (kindUnder q n)))
+            (unmet (under (kindName (kindUnder q n))) (held (under (kindName (kindUnder q n))) [] t)) v
+            (enteredFound r (entryAt f i (kindUnder q n)))
             → Agrees (K ∷ knownIn (under n) [] t) v r
         unfolding absorb lacks any
         enters o h v a =
             let m = named in
-            let b : AgreesIn (knownIn (under n) [] t) (unmet (under n) (held (under n) [] t)) v (enteredFound r (entryAt f i (kindUnder q n))) =
-            rw m at a in
+            let b : AgreesIn (knownIn (under n) [] t) (unmet (under n) (held (under n) [] t)) v
+            (enteredFound r (entryAt f i (kindUnder q n))) = rw m at a in
             record {
               index = b .index
                   ∙ ap (absorb (knownIn (under n) [] t))

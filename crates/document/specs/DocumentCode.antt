@@ -19,10 +19,10 @@ use Rattle.schema.specs.Schema.{oneOf, under}
 use Rattle.schema.specs.SchemaCode.{kindName, kindUnder, isCarried, isBarred}
 use Rattle.file_rules.specs.Element.{Known, Fault, ownFaults}
 use Rattle.element.specs.declared.Gathered.{Gathered}
-use Rattle.element.specs.ElementCode.{rulesFor, gatheredAt, badText, misspelt, textNumber, verdict, firstNumber}
+use Rattle.element.specs.ElementCode.{rulesFor, gatheredAt, saidAt, badText, verdict, firstNumber}
 use Rattle.file_rules.specs.Document.{knownElements, elementFaults}
 use Rattle.file_rules.specs.RefusalCode.{refusedAt}
-use Rattle.document.specs.EntriesCode.{Entry, rowFrom, entryOf, written, rowSize, entriesIn}
+use Rattle.document.specs.EntriesCode.{Entry, rowFrom, entryOf, written, entryMost, entryRoom, rowSize, entriesIn}
 use Rattle.document.specs.declared.Found.{Found}
 use Rattle.file_rules.specs.declared.Refusal.{Refusal}
 use Rattle.document.specs.declared.Seen.{Seen}
@@ -49,7 +49,7 @@ empty = refusedIndex 0 0
 
 -- one entry more, if there is room for it
 unfoldable pub entered : Index → Entry → Index
-entered x e = cond (leb (length (written (x .entries))) 3468) (record { fault = x .fault; entries = x .entries ++ (e ∷ []) }) x
+entered x e = cond (leb (length (written (x .entries))) entryMost) (record { fault = x .fault; entries = x .entries ++ (e ∷ []) }) x
 
 abbrev pub enteredFound : FoundSoFar → Entry → FoundSoFar
 enteredFound r e = record { index = entered (r .index) e; lacking = r .lacking }
@@ -118,12 +118,12 @@ faultAt f i k over = firstFault k over (badText k f i) (gatheredAt (rulesFor k) 
 
 -- the same, stray text aside
 abbrev pub tagFaultAt : List ℕ → ℕ → ℕ → Bool → ℕ
-tagFaultAt f i k over = firstFault k over (misspelt k f i) (gatheredAt (rulesFor k) f i)
+tagFaultAt f i k over = firstFault k over (saidAt k f i .misspelt) (gatheredAt (rulesFor k) f i)
 
 -- what is kept of the element at i
 unfoldable pub entryAt : List ℕ → ℕ → ℕ → Entry
 entryAt f i k =
-    record { kind = k; place = i; number = textNumber k f i; row = rowFrom (kindName k) (gatheredAt (rulesFor k) f i) }
+    record { kind = k; place = i; number = saidAt k f i .number; row = rowFrom (kindName k) (gatheredAt (rulesFor k) f i) }
 
 -- the items from j on, in an element of the kind q; n is more than there can be
 unfoldable pub visitItems : (ℕ → ℕ → Bool → FoundSoFar → FoundSoFar) → List ℕ → ℕ → ℕ → ℕ → Seen → FoundSoFar → FoundSoFar
@@ -194,7 +194,7 @@ pub record EnteredIs (r : FoundSoFar) (e : Entry) (i : ℕ) (v : Walk) (ms : Lis
 
 -- an element stands at i, in which elements nest at most d deep, and there is room for every mark
 pub record Ready (f : List ℕ) (d i : ℕ) (ms : List ℕ) : Type 0 where
-  pub room : length ms ≡ 3498
+  pub room : length ms ≡ entryRoom
   pub short : length f ≤ 32768
   pub shallow : d ≤ 8
   pub node : Node

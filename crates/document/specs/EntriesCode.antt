@@ -6,7 +6,7 @@ use mathlib.Core.Bool.{Bool, cond}
 use lib.ListN.{length, getD, take, drop}
 use Rattle.text.specs.Texts.{bytes, same}
 use Rattle.schema.specs.Schema.{rulesOf}
-use Rattle.schema.specs.SchemaCode.{kindName, kindOf, attributeOf, isRuled}
+use Rattle.schema.specs.SchemaCode.{attributeCount, kindName, kindOf, attributeOf, isRuled}
 use Rattle.file_rules.specs.Element.{Known, goodOf, channelOf}
 use Rattle.element.specs.declared.Gathered.{Gathered}
 use Rattle.element.specs.ElementCode.{nothingGathered, gatheredList}
@@ -50,9 +50,20 @@ entryWords e = e .kind ∷ e .place ∷ e .number ∷ e .row
 abbrev pub written : List Entry → List ℕ
 written es = gathered entryWords es
 
--- so many words has the row of a kind: 25 attributes, and the set
+-- the words of a row; the most that all entries of a document without faults have, of which there are 382, 86 with a row; and so much room that
+-- any entry fits behind these
+abbrev pub rowWidth : ℕ
+rowWidth = attributeCount + 2
+
+abbrev pub entryMost : ℕ
+entryMost = 382 * 3 + 86 * rowWidth
+
+abbrev pub entryRoom : ℕ
+entryRoom = entryMost + rowWidth + 3
+
+-- so many words has the row of a kind
 unfoldable pub rowSize : ℕ → ℕ
-rowSize kind = cond (isRuled (kindName kind)) 27 0
+rowSize kind = cond (isRuled (kindName kind)) rowWidth 0
 
 -- the entry at the front, and all of them; n is more than there can be
 unfoldable pub entryFrom : List ℕ → Entry

@@ -1,7 +1,7 @@
 // All known elements of a file: which there are and where, or the first of its refusals 1 to 8.
 //
-// Promises: `read_index` answers every file, by value and to the last entry; proofs/Laws.antt says that this is what
-// crates/file_rules/specs/Document.antt says of its document.
+// Promises: `read_index` answers every file; where there is no refusal, every known element is at the front of the words that it was lent.
+// proofs/Laws.antt says that this is what crates/file_rules/specs/Document.antt says of its document.
 // May not touch: what the elements say together (names, channels, expressions): that is for the crates above.
 ghost use mathlib.Core.Path.{_≡_};
 ghost use Prim.Native.Nat.{ℕ, suc, _+_, _≤_, _<_};
@@ -9,9 +9,9 @@ ghost use mathlib.Core.List.{List, [], _∷_, _++_};
 ghost use lib.ListN.{length, take};
 ghost use Rattle.shape.specs.declared.Shape.the-variants.{Whole};
 ghost use Rattle.shape.specs.Shape.{Shaped};
-ghost use Rattle.walk.specs.WalkCode.{contentAt, skipped};
-ghost use Rattle.element.specs.ElementCode.{worded};
-ghost use Rattle.schema.specs.SchemaCode.{kindCount};
+ghost use Rattle.walk.specs.WalkCode.{nameAt, contentAt, skipped};
+ghost use Rattle.schema.specs.SchemaCode.{kindCount, attributeCount};
+ghost use Rattle.document.specs.EntriesCode.{rowWidth, entryRoom};
 ghost use Rattle.document.specs.DocumentCode.{refusedIndex, refusedFound, noneSeen, oneMore, marked, isOver, lacksSome, closedWalk, childAt, looked, firstFault, visitBody, visitFrom, indexAt, noneFound, indexed, rowWords, entryBy, found, Sound, Ready, VisitedIs, InsideIs, EnteredIs, Holds, IndexedIn};
 ghost use Rattle.lists.specs.FillsCode.{Filled};
 use element::Gathered;
@@ -30,6 +30,15 @@ use walk::Item;
 use walk::elements;
 use walk::items;
 use walk::tags;
+
+// The words of a row: which attributes there are, as a set, and their numbers.
+pub const ROW: usize = ATTRIBUTES + 2;
+
+// The most words that all entries of a file without faults have: 382 of three words, 86 of them with a row.
+const MOST: usize = 382 * 3 + 86 * ROW;
+
+// So much room that any entry fits behind these.
+pub const ROOM: usize = MOST + ROW + 3;
 
 // The first refusal (then there are no entries), and where the entries end.
 pub struct Found {
@@ -57,6 +66,12 @@ pub struct Seen {
     pub kinds: u64,
 }
 
+// An element by its name: its kind, and where the name ends.
+pub struct Named {
+    pub kind: usize,
+    pub to: usize,
+}
+
 fn refuse(number: u32, place: usize) -> Found
     ensures { λ r. ⌜ ((ms : List ℕ) → Holds r ms (refusedIndex number place)) ⌝ }
 {
@@ -68,7 +83,7 @@ fn refuse(number: u32, place: usize) -> Found
 
 // The numbers of an element's attributes, from `at` on; where they end.
 fn put_values(values: [u32; ATTRIBUTES], at: usize, words: &mut [u32]) -> usize
-    requires { ⌜ at + 25 ≤ length (now words) ⌝ }
+    requires { ⌜ at + attributeCount ≤ length (now words) ⌝ }
     ensures { λ r. ⌜ Filled (take at (now (words .entry)) ++ values) (now (words .entry)) (now (words .exit)) r ⌝ }
 {
     let mut a = 0;
@@ -81,7 +96,7 @@ fn put_values(values: [u32; ATTRIBUTES], at: usize, words: &mut [u32]) -> usize
 
 // Which attributes there are, and their numbers.
 fn put_row(g: Gathered, at: usize, words: &mut [u32]) -> usize
-    requires { ⌜ at + 27 ≤ length (now words) ⌝ }
+    requires { ⌜ at + rowWidth ≤ length (now words) ⌝ }
     ensures { λ r. ⌜ Filled (take at (now (words .entry)) ++ rowWords g) (now (words .entry)) (now (words .exit)) r ⌝ }
 {
     let values = g.values;
@@ -103,12 +118,12 @@ fn put_head(kind: usize, place: usize, number: u32, at: usize, words: &mut [u32]
 
 // The element where the walk stands is entered, if there is room for it.
 fn enter(walk: Walk, kind: usize, number: u32, g: Gathered, words: &mut [u32]) -> Walk
-    requires { ⌜ (length (now words) ≡ 3498) × (walk .at ≤ 32768) × (kind < kindCount) × Sound (walk .end) (now words) ⌝ }
+    requires { ⌜ (length (now words) ≡ entryRoom) × (walk .at ≤ 32768) × (kind < kindCount) × Sound (walk .end) (now words) ⌝ }
     ensures { λ r. ⌜ EnteredIs (found walk (now (words .entry))) (entryBy kind (walk .at) number g) (walk .at) r (now (words .exit)) ⌝ }
 {
     let at = walk.end;
     let mut next = walk;
-    if 3468 < at {
+    if MOST < at {
         return next;
     }
     let head = put_head(kind, walk.at, number, at, words);
@@ -209,14 +224,15 @@ fn close(walk: Walk, kind: usize, seen: Seen, end: usize, stray: bool) -> Inside
     }
 }
 
-// The kind of the element at j, under an element of the kind `parent`.
-fn child_at(file: &[u8], j: usize, parent: usize) -> usize
-    ensures { λ r. ⌜ r ≡ childAt (now (file .entry)) j parent ⌝ }
+// The element at j, under an element of the kind `parent`.
+fn child_at(file: &[u8], j: usize, parent: usize) -> Named
+    ensures { λ r. ⌜ (r .kind ≡ childAt (now (file .entry)) j parent) × (r .to ≡ nameAt (now (file .entry)) j .to) ⌝ }
 {
     let name = tags::name_of(file, j);
     let from = name.from;
     let to = name.to;
-    kinds::kind_under(parent, &file[from..to])
+    let kind = kinds::kind_under(parent, &file[from..to]);
+    Named { kind, to }
 }
 
 // The first of 4, 7 for its kind, 5, 6, 7 for a value, by its attributes and whether its text is bad; 0 if there is none.
@@ -230,18 +246,6 @@ fn fault_of(kind: usize, over: bool, g: Gathered, bad: bool) -> u32
         return 4;
     }
     faults::verdict_of(kind, g, bad)
-}
-
-// Has an element of that kind a text of its own?
-fn is_worded(kind: usize) -> bool
-    ensures { λ r. ⌜ r ≡ worded kind ⌝ }
-{
-    match kind {
-        kinds::VERSION => true,
-        kinds::CHANNEL => true,
-        kinds::EXPRESSION => true,
-        _ => false,
-    }
 }
 
 // Is an element of that kind looked at? Not behind a fault.
@@ -266,30 +270,30 @@ fn pass(file: &[u8], walk: Walk) -> Walk
     move_to(walk, end)
 }
 
-// The element where the walk stands, of that kind, in which elements nest at most `left` deep, and all known elements in it. Stray text shows only behind it.
-fn visit(file: &[u8], kind: usize, over: bool, left: usize, walk: Walk, words: &mut [u32]) -> Walk
-    requires { ⌜ Ready (now file) left (walk .at) (now words) × Sound (walk .end) (now words) ⌝ }
-    ensures { λ r. ⌜ VisitedIs (now (file .entry)) (walk .at) (visitFrom (now (file .entry)) left (walk .at) kind over (found walk (now (words .entry)))) r (now (words .exit)) ⌝ }
+// The element where the walk stands, so named, in which elements nest at most `left` deep, and all known elements in it. Stray text shows only behind it.
+fn visit(file: &[u8], name: Named, over: bool, left: usize, walk: Walk, words: &mut [u32]) -> Walk
+    requires { ⌜ Ready (now file) left (walk .at) (now words) × Sound (walk .end) (now words) × (name .to ≡ nameAt (now file) (walk .at) .to) ⌝ }
+    ensures { λ r. ⌜ VisitedIs (now (file .entry)) (walk .at) (visitFrom (now (file .entry)) left (walk .at) (name .kind) over (found walk (now (words .entry)))) r (now (words .exit)) ⌝ }
 {
     let i = walk.at;
+    let kind = name.kind;
     if !is_looked_at(walk, kind) {
         return pass(file, walk);
     }
-    let tag = element::gather(file, i, kind);
+    let tag = element::gather(file, name.to, kind);
     let gathered = tag.gathered;
     let body = tag.body;
-    let misspelt = faults::is_misspelt(file, i, kind);
-    if fault_of(kind, over, gathered, misspelt) != 0 {
-        let bad = faults::bad_text(file, i, kind);
+    let said = fields::read_text(file, kind, body);
+    if fault_of(kind, over, gathered, said.misspelt) != 0 {
+        let bad = faults::bad_text(file, kind, body, said.misspelt);
         let first = fault_of(kind, over, gathered, bad);
         let faulty = refused(walk, first, i);
         return pass(file, faulty);
     }
-    let number = fields::text_number(file, i, kind);
-    let entered = enter(walk, kind, number, gathered, words);
+    let entered = enter(walk, kind, said.number, gathered, words);
     let inside = visit_inside(file, kind, body, left - 1, entered, words);
     let all = inside.walk;
-    if !is_worded(kind) & inside.stray {
+    if !faults::is_worded(kind) & inside.stray {
         let strayed = refused(walk, 6, i);
         return move_to(strayed, all.at);
     }
@@ -297,7 +301,7 @@ fn visit(file: &[u8], kind: usize, over: bool, left: usize, walk: Walk, words: &
 }
 
 // All known elements in the element where the walk stands, which is of that kind and has been entered; elements nest at most `left` deep in it.
-// In a file of good shape its end tag comes before anything that is broken.
+// In a file of good shape its end tag comes before anything that is broken. Blanks are passed first: text behind them is no blank.
 fn visit_inside(
     file: &[u8],
     kind: usize,
@@ -318,9 +322,10 @@ fn visit_inside(
             let mut seen = none_seen();
             let mut stray = false;
             while all.at < file.len() {
+                all.at = runs::blanks_end(file, all.at);
                 match items::item_at(file, all.at) {
                     Item::Text(k) => {
-                        stray = stray | (runs::blanks_end(file, all.at) < k);
+                        stray = true;
                         all.at = k;
                     }
                     Item::Remark(k) => {
@@ -328,9 +333,9 @@ fn visit_inside(
                     }
                     Item::Child => {
                         let child = child_at(file, all.at, kind);
-                        let surplus = is_over(kind, child, seen);
+                        let surplus = is_over(kind, child.kind, seen);
                         all = visit(file, child, surplus, left, all, words);
-                        seen = mark(seen, child);
+                        seen = mark(seen, child.kind);
                     }
                     Item::Close(e) => {
                         return close(all, kind, seen, e, stray);
@@ -375,20 +380,20 @@ fn none_found(at: usize) -> Walk
 
 // The index of a file of good shape.
 fn index_whole(file: &[u8], words: &mut [u32]) -> Found
-    requires { ⌜ Shaped (now file) Whole × (length (now words) ≡ 3498) ⌝ }
+    requires { ⌜ Shaped (now file) Whole × (length (now words) ≡ entryRoom) ⌝ }
     ensures { λ r. ⌜ Holds r (now (words .exit)) (indexed (now (file .entry))) ⌝ }
 {
     let root = items::root_at(file);
-    let kind = child_at(file, root, kinds::FILE);
-    if kinds::is_carried(kind) {
-        let all = visit(file, kind, false, 8, none_found(root), words);
+    let name = child_at(file, root, kinds::FILE);
+    if kinds::is_carried(name.kind) {
+        let all = visit(file, name, false, 8, none_found(root), words);
         return settle(all, root);
     }
     refuse(3, root)
 }
 
 // The known elements of a file at the front of the words, or the first of its refusals 1 to 8. Behind them nothing is said of the words.
-pub fn read_index(file: &[u8], words: &mut [u32; 3498]) -> Found
+pub fn read_index(file: &[u8], words: &mut [u32; ROOM]) -> Found
     ensures { λ r. ⌜ IndexedIn (now (file .entry)) r (now (words .exit)) ⌝ }
 {
     match xml::read_shape(file) {

@@ -20,7 +20,7 @@ use Rattle.schema.specs.SchemaCode.{attributes, kindName, knows}
 use Rattle.schema.proofs.Laws.{Listed, listed}
 use Rattle.file_rules.specs.Element.{Known, Fault, _at_if_, isBad, isNotCarried, goodOf, worthBy, givenValue, given, has, valueOf, channelOf, tooMany, misfit, crossed, misworded, ownFaults}
 use Rattle.element.specs.declared.Gathered.{Gathered}
-use Rattle.element.specs.ElementCode.{nothingGathered, gatheredAt, gatheredList, flagOf, numberOf, isKind, lacksRequired, unpaired, lacking, boundsCrossed, numbered, textNumber, badText, verdict, ownFault, firstNumber, valueAt}
+use Rattle.element.specs.ElementCode.{nothingGathered, gatheredAt, gatheredList, flagOf, numberOf, isKind, lacksRequired, unpaired, lacking, boundsCrossed, shortText, said, saidAt, worded, badText, verdict, ownFault, firstNumber, valueAt}
 use Rattle.lists.proofs.Parts.{neither}
 use Rattle.element.proofs.Gathers.{five-is, bad-is, not-carried-is, given-is, spelled-is}
 use Rattle.element.proofs.Required.{lacksBy, lacks-is}
@@ -237,29 +237,30 @@ wording n t s =
     cond (same n (bytes "VERSION")) (not (same t (bytes "2.0")))
     (cond (same n (bytes "CHANNEL")) (isBad (worthOf (0 to 4) t)) (not (same n (bytes "EXPRESSION")) && s))
 
-and-not : (b s : Bool) → cond b false s ≡ (not b && s)
-and-not true s = refl
-and-not false s = refl
+wrong : (v c e p q s : Bool) → cond (v || c || e) (cond v p (cond c q false)) s ≡ cond v p (cond c q (not e && s))
+wrong true c e p q s = refl
+wrong false true e p q s = refl
+wrong false false true p q s = refl
+wrong false false false p q s = refl
 
 -- a known element that stands in a file
 module _ (k : Known) (f : List ℕ) (d e : ℕ) (y : ElementAt f (suc d) (k .place) (node (k .place) (k .name) (k .attributes) (k .items)) e)
     (deep : suc d ≤ 8) (room : length f ≤ 32768) where
-  pub channel-law : numbered f (k .place) ≡ channelOf k
-  channel-law = ap (worthOf (0 to 4)) (short-law f (suc d) (k .place) (k .place) (k .name) (k .attributes) (k .items) e y deep room)
+  short : shortText f (k .place) ≡ trimmed (joined (k .items))
+  short = short-law f (suc d) (k .place) (k .place) (k .name) (k .attributes) (k .items) e y deep room
 
-  pub text-law : (kind : ℕ) → k .name ≡ kindName kind
-      → textNumber kind f (k .place) ≡ cond (same (k .name) (bytes "CHANNEL")) (goodOf (channelOf k)) 0
-  unfolding textNumber
-  text-law kind named = rw (channel-law, named)
+  pub channel-law : (kind : ℕ) → k .name ≡ kindName kind
+      → saidAt kind f (k .place) .number ≡ cond (same (k .name) (bytes "CHANNEL")) (goodOf (channelOf k)) 0
+  unfolding said
+  channel-law kind named = rw (short, named)
 
   -- its text
   words-law : (kind : ℕ) → k .name ≡ kindName kind → badText kind f (k .place) ≡ misworded k
-  unfolding badText misworded
+  unfolding said worded misworded
   words-law kind named =
       let tx = trimmed (joined (k .items)) in
-      rw (and-not (isKind kind "EXPRESSION") (walk.stray (walk.textAt f (k .place)))) refl
-      ∙ ap (λ (t : List ℕ). wording (kindName kind) t (walk.stray (walk.textAt f (k .place))))
-      (short-law f (suc d) (k .place) (k .place) (k .name) (k .attributes) (k .items) e y deep room)
+      wrong (isKind kind "VERSION") (isKind kind "CHANNEL") (isKind kind "EXPRESSION") _ _ _
+      ∙ ap (λ (t : List ℕ). wording (kindName kind) t (walk.stray (walk.textAt f (k .place)))) short
       ∙ ap (wording (kindName kind) tx) (stray-law f (suc d) (k .place) (k .place) (k .name) (k .attributes) (k .items) e y deep)
       ∙ ap (λ (n : List ℕ). wording n tx (not (same tx []))) (sym named)
 

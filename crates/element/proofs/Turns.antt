@@ -16,7 +16,7 @@ use Rattle.shape.proofs.Slices.{slice-part}
 use Rattle.walk.proofs.Turns.{Turn, start, next, done, over}
 use Rattle.schema.specs.Schema.{Rule}
 use Rattle.element.specs.declared.Gathered.{Gathered}
-use Rattle.element.specs.ElementCode.{nothingGathered, judged, gatherFrom, gatheredAt, valueFrom, valueAt}
+use Rattle.element.specs.ElementCode.{nothingGathered, judged, gatherFrom, gatheredBehind, valueFrom, valueAt}
 
 -- a part that is no attribute
 abbrev pub Last : TagPart → Type 0
@@ -49,14 +49,11 @@ module _ (rs : List Rule) (f : List ℕ) (j : ℕ) (g : Gathered) where
   gather-past h (suc n) = gather-last n TagPart.Broken (sym (part-over f j h)) tt
 
 abbrev pub GatherTurn : List Rule → List ℕ → ℕ → Gathered → ℕ → Type 0
-GatherTurn rs f i g j = Turn (λ n m. gatherFrom rs f n m g) (length f) j (gatheredAt rs f i)
+GatherTurn rs f i g j = Turn (λ n m. gatherFrom rs f n m g) (length f) j (gatheredBehind rs f i)
 
-pub gather-start : (rs : List Rule) (f : List ℕ) (i : ℕ) (p : Part) (g : Gathered) → p ≡ walk.nameAt f i → g ≡ nothingGathered
-    → GatherTurn rs f i g (p .to)
-unfolding gatheredAt
-gather-start rs f i p g e h =
-    start (λ n m. gatherFrom rs f n m g) (length f) (p .to) (gatheredAt rs f i)
-    (ap (λ (q : Part). gatherFrom rs f (suc (length f)) (q .to) g) e ∙ ap (gatherFrom rs f (suc (length f)) (walk.nameAt f i .to)) h)
+pub gather-start : (rs : List Rule) (f : List ℕ) (i : ℕ) (g : Gathered) → g ≡ nothingGathered → GatherTurn rs f i g i
+gather-start rs f i g h =
+    start (λ n m. gatherFrom rs f n m g) (length f) i (gatheredBehind rs f i) (ap (gatherFrom rs f (suc (length f)) i) h)
 
 module _ (rs : List Rule) (f : List ℕ) (i j : ℕ) (g : Gathered) (t : GatherTurn rs f i g j) where
   pub gather-again : j < length f → (a e c k : ℕ) → TagPart.Attribute a e c k ≡ walk.partAt f j
@@ -66,14 +63,14 @@ module _ (rs : List Rule) (f : List ℕ) (i j : ℕ) (g : Gathered) (t : GatherT
       let u : part f a e ≡ slice a e f = slice-part f a e (b .1) (omega (arith, b .2, b .3, b .4)) in
       let v : part f c k ≡ slice c k f = slice-part f c k (b .3) (omega (arith, b .4)) in
       let y : judged rs g (record { name = slice a e f; value = slice c k f }) ≡ g′ = sym (z ∙ rw (u, v)) in
-      next (λ n m. gatherFrom rs f n m g) (length f) j (gatheredAt rs f i) (λ n m. gatherFrom rs f n m g′) (k + 1) t h
+      next (λ n m. gatherFrom rs f n m g) (length f) j (gatheredBehind rs f i) (λ n m. gatherFrom rs f n m g′) (k + 1) t h
       (omega (arith, b .0, b .1, b .2, b .3)) (λ n. gather-next rs f j g n a e c k r ∙ ap (gatherFrom rs f n (k + 1)) y)
 
-  pub gather-done : j < length f → (p : TagPart) → p ≡ walk.partAt f j → Last p → g ≡ gatheredAt rs f i
-  gather-done h p r z = done (λ n m. gatherFrom rs f n m g) (length f) j (gatheredAt rs f i) g t h (λ n. gather-last rs f j g n p r z)
+  pub gather-done : j < length f → (p : TagPart) → p ≡ walk.partAt f j → Last p → g ≡ gatheredBehind rs f i
+  gather-done h p r z = done (λ n m. gatherFrom rs f n m g) (length f) j (gatheredBehind rs f i) g t h (λ n. gather-last rs f j g n p r z)
 
-  pub gather-over : length f ≤ j → g ≡ gatheredAt rs f i
-  gather-over h = over (λ n m. gatherFrom rs f n m g) (length f) j (gatheredAt rs f i) g t (gather-past rs f j g h)
+  pub gather-over : length f ≤ j → g ≡ gatheredBehind rs f i
+  gather-over h = over (λ n m. gatherFrom rs f n m g) (length f) j (gatheredBehind rs f i) g t (gather-past rs f j g h)
 
 -- ---- one attribute
 module _ (n f : List ℕ) (j : ℕ) where

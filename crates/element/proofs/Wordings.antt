@@ -7,7 +7,7 @@ use mathlib.Core.Bool.{Bool, true, false, not, cond, _&&_, _||_}
 use Rattle.lists.proofs.Cases.{by-cases}
 use Rattle.walk.specs.WalkCode.{textAt, stray}
 use Rattle.element.specs.declared.Gathered.{Gathered}
-use Rattle.element.specs.ElementCode.{rulesFor, isKind, lacking, boundsCrossed, gatheredAt, badText, worded, misspelt, verdict, ownFault, tagFault}
+use Rattle.element.specs.ElementCode.{rulesFor, isKind, lacking, boundsCrossed, gatheredAt, worded, said, saidAt, verdict, ownFault, tagFault}
 
 -- 5, 6 and 7 for a value, by their flags; t is for stray text
 numbered : Bool → Bool → Bool → Bool → ℕ
@@ -31,29 +31,16 @@ stray-none false false false true e = refl
 stray-none false false false false e = refl
 
 -- a kind whose text is read is one of three
-split : (v c e p q s : Bool)
-    → (cond v p (cond c q (cond e false s)) ≡ cond (v || c || e) (cond v p (cond c q false)) s)
-    × (cond (v || c || e) false (cond v p (cond c q false)) ≡ false)
-split true c e p q s = (refl, refl)
-split false true e p q s = (refl, refl)
-split false false true p q s = (refl, refl)
-split false false false p q s = (refl, refl)
+split : (v c e p q : Bool) → cond (v || c || e) false (cond v p (cond c q false)) ≡ false
+split true c e p q = refl
+split false true e p q = refl
+split false false true p q = refl
+split false false false p q = refl
 
 module _ (f : List ℕ) (i : ℕ) where
-  -- a text is bad if it is misspelt, or where none is read, if there is any
-  text-split : (kind : ℕ) → badText kind f i ≡ cond (worded kind) (misspelt kind f i) (stray (textAt f i))
-  unfolding badText misspelt worded
-  text-split kind = split (isKind kind "VERSION") (isKind kind "CHANNEL") (isKind kind "EXPRESSION") _ _ _ .0
-
-  unread : (kind : ℕ) → cond (worded kind) false (misspelt kind f i) ≡ false
-  unfolding misspelt worded
-  unread kind = split (isKind kind "VERSION") (isKind kind "CHANNEL") (isKind kind "EXPRESSION") _ _ false .1
-
-  pub worded-text : (kind : ℕ) → true ≡ worded kind → misspelt kind f i ≡ badText kind f i
-  worded-text kind e = rw (text-split kind, ← e)
-
-  pub wordless-text : (kind : ℕ) → false ≡ worded kind → stray (textAt f i) ≡ badText kind f i
-  wordless-text kind e = rw (text-split kind, ← e)
+  unread : (kind : ℕ) → cond (worded kind) false (saidAt kind f i .misspelt) ≡ false
+  unfolding said worded
+  unread kind = split (isKind kind "VERSION") (isKind kind "CHANNEL") (isKind kind "EXPRESSION") _ _
 
   module _ (kind : ℕ) where
     abbrev g : Gathered
@@ -68,15 +55,15 @@ module _ (f : List ℕ) (i : ℕ) where
     module _ (e : false ≡ worded kind) where
       tag-is : tagFault kind f i ≡ numbered five six (g .seven) false
       unfolding tagFault verdict numbered
-      tag-is = let h : misspelt kind f i ≡ false = rw (← e) at (unread kind) in rw h
+      tag-is = let h : saidAt kind f i .misspelt ≡ false = rw (← e) at (unread kind) in rw h
 
       own-is : ownFault kind f i ≡ numbered five six (g .seven) (stray (textAt f i))
       unfolding ownFault verdict numbered
-      own-is = rw (← wordless-text kind e)
+      own-is = rw (← e)
 
     same-fault : true ≡ worded kind → ownFault kind f i ≡ tagFault kind f i
     unfolding ownFault tagFault
-    same-fault e = rw (worded-text kind e)
+    same-fault e = rw (← e)
 
     -- where there is a fault without stray text, there is one with it
     pub fault-some : (tagFault kind f i ≡ 0 → ⊥) → ownFault kind f i ≡ 0 → ⊥

@@ -12,12 +12,14 @@ use Rattle.values.specs.Values.{worthOf}
 use Rattle.shape.specs.Shape.{Attribute}
 use Rattle.walk.specs.declared.TagPart.{TagPart}
 use Rattle.walk.specs.declared.Part.{Part}
+use Rattle.walk.specs.declared.Body.{Body}
 use Rattle.walk.specs.WalkCode as walk
 use Rattle.shape.specs.Text.{trimmed}
 use Rattle.schema.specs.Schema.{Rule, _to_, rulesOf}
 use Rattle.schema.specs.SchemaCode.{attributeCount, kindName, attributeName, attributeOf, knows, demands}
 use Rattle.file_rules.specs.Element.{worthBy, isBad, isNotCarried, goodOf, Fault}
 use Rattle.element.specs.declared.Gathered.{Gathered}
+use Rattle.element.specs.declared.fields.Said.{Said}
 use Rattle.lists.specs.Lists.{any}
 use Rattle.lists.specs.BitsCode.{upto, hasBit, withBit}
 
@@ -58,9 +60,12 @@ gatherFrom rs f (suc n) j g =
       | TagPart.Broken ↦ g
     ]
 
--- the attributes of the element at i, which has these rules
+-- the attributes behind a name that ends at j, and of the element at i, which has these rules
+abbrev pub gatheredBehind : List Rule → List ℕ → ℕ → Gathered
+gatheredBehind rs f j = gatherFrom rs f (suc (length f)) j nothingGathered
+
 unfoldable pub gatheredAt : List Rule → List ℕ → ℕ → Gathered
-gatheredAt rs f i = gatherFrom rs f (suc (length f)) (walk.nameAt f i .to) nothingGathered
+gatheredAt rs f i = gatheredBehind rs f (walk.nameAt f i .to)
 
 -- the same of a list of attributes
 unfoldable pub gatheredList : List Rule → List Attribute → Gathered → Gathered
@@ -93,30 +98,40 @@ boundsCrossed h v =
 abbrev pub isKind : ℕ → String → Bool
 isKind kind n = same (kindName kind) (bytes n)
 
--- the text of the element at i, of which there is room for 32,768 bytes
+-- the text of an element with that content, of which there is room for 32,768 bytes, and of the element at i
+abbrev pub shortIn : List ℕ → Body → List ℕ
+shortIn f b = trimmed (take 32768 (walk.textIn f b))
+
 abbrev pub shortText : List ℕ → ℕ → List ℕ
 shortText f i = trimmed (take 32768 (walk.textAt f i))
 
-abbrev pub numbered : List ℕ → ℕ → Worth
-numbered f i = worthOf (0 to 4) (shortText f i)
+-- what a text says as a channel, or as the version that is carried
+abbrev pub worthSaid : Worth → Said
+worthSaid w = record { misspelt = isBad w; number = goodOf w }
 
--- the number that the text gives, where it is read for one
-unfoldable pub textNumber : ℕ → List ℕ → ℕ → ℕ
-textNumber kind f i = cond (isKind kind "CHANNEL") (goodOf (numbered f i)) 0
+abbrev pub saidAs : Bool → List ℕ → Said
+saidAs channel t = cond channel (worthSaid (worthOf (0 to 4) t)) (record { misspelt = not (same t (bytes "2.0")); number = 0 })
 
-unfoldable pub badText : ℕ → List ℕ → ℕ → Bool
-badText kind f i =
-    cond (isKind kind "VERSION") (not (same (shortText f i) (bytes "2.0")))
-    (cond (isKind kind "CHANNEL") (isBad (numbered f i)) (cond (isKind kind "EXPRESSION") false (walk.stray (walk.textAt f i))))
+-- the same in an element of the kind; stray text aside
+unfoldable pub said : ℕ → List ℕ → Said
+said kind t = record {
+  misspelt = cond (isKind kind "VERSION") (not (same t (bytes "2.0"))) (cond (isKind kind "CHANNEL") (isBad (worthOf (0 to 4) t)) false);
+  number = cond (isKind kind "CHANNEL") (goodOf (worthOf (0 to 4) t)) 0;
+}
+
+abbrev pub saidAt : ℕ → List ℕ → ℕ → Said
+saidAt kind f i = said kind (shortText f i)
 
 -- the kinds that read a text of their own; in every other only blanks may stand
 unfoldable pub worded : ℕ → Bool
 worded kind = isKind kind "VERSION" || isKind kind "CHANNEL" || isKind kind "EXPRESSION"
 
--- the same of a text that is read for its value: stray text aside
-unfoldable pub misspelt : ℕ → List ℕ → ℕ → Bool
-misspelt kind f i =
-    cond (isKind kind "VERSION") (not (same (shortText f i) (bytes "2.0"))) (cond (isKind kind "CHANNEL") (isBad (numbered f i)) false)
+-- a text t is bad, if it is misspelt where it is read
+abbrev pub badIn : ℕ → Bool → List ℕ → Bool
+badIn kind misspelt t = cond (worded kind) misspelt (walk.stray t)
+
+abbrev pub badText : ℕ → List ℕ → ℕ → Bool
+badText kind f i = badIn kind (saidAt kind f i .misspelt) (walk.textAt f i)
 
 -- the first of 5, 6, 7 for a value, or 0
 unfoldable pub verdict : List Rule → Bool → Gathered → ℕ
@@ -128,7 +143,7 @@ ownFault kind f i = verdict (rulesFor kind) (badText kind f i) (gatheredAt (rule
 
 -- the same, stray text aside
 unfoldable pub tagFault : ℕ → List ℕ → ℕ → ℕ
-tagFault kind f i = verdict (rulesFor kind) (misspelt kind f i) (gatheredAt (rulesFor kind) f i)
+tagFault kind f i = verdict (rulesFor kind) (saidAt kind f i .misspelt) (gatheredAt (rulesFor kind) f i)
 
 -- the number of the first fault, or 0
 unfoldable pub firstNumber : List Fault → ℕ

@@ -2,13 +2,9 @@
 //
 // Promises: each answer is the function of the bytes that specs/ElementCode.antt gives, for every input.
 ghost use mathlib.Core.Path.{_≡_};
-ghost use mathlib.Core.Bool.{false};
-ghost use Rattle.text.specs.Texts.{bytes, same};
-ghost use Rattle.shape.specs.Text.{trimmed};
-ghost use Rattle.file_rules.specs.Element.{isBad};
-ghost use Rattle.element.specs.ElementCode.{rulesFor, lacksRequired, unpaired, lacking, boundsCrossed, shortText, badText, misspelt, verdict};
+ghost use Rattle.walk.specs.WalkCode.{textIn};
+ghost use Rattle.element.specs.ElementCode.{rulesFor, lacksRequired, unpaired, lacking, boundsCrossed, worded, badIn, verdict};
 use crate::Gathered;
-use crate::fields;
 use lists::bits;
 use schema::attributes;
 use schema::attributes::ATTRIBUTES;
@@ -20,11 +16,8 @@ use schema::attributes::MSGID_MIN;
 use schema::kinds;
 use values::BAD_VALUE;
 use values::NOT_CARRIED;
-use values::Worth;
-use walk::pieces;
-use walk::pieces::Single;
+use walk::Body;
 use walk::texts;
-use walk::trims;
 
 const LAST_STANDARD: u32 = 2047;
 
@@ -65,70 +58,27 @@ fn bounds_crossed(has: u64, v: [u32; ATTRIBUTES]) -> bool
         | (v[DLC] < v[DLC_MIN])
 }
 
-fn is_bad(w: Worth) -> bool
-    ensures { λ r. ⌜ r ≡ isBad w ⌝ }
-{
-    match w {
-        Worth::Good(_) => false,
-        Worth::Refused(n) => n == BAD_VALUE,
-    }
-}
-
-fn is_version(text: &[u8]) -> bool
-    ensures { λ r. ⌜ r ≡ same (trimmed (now (text .entry))) (bytes "2.0") ⌝ }
-{
-    let part = trims::trim(text);
-    let a = part.from;
-    let e = part.to;
-    text::texts::same_text(&text[a..e], b"2.0")
-}
-
-// Is the text of the element at i, its pieces joined in a buffer, the version that is carried?
-fn has_joined_version(file: &[u8], i: usize) -> bool
-    ensures { λ r. ⌜ r ≡ same (shortText (now (file .entry)) i) (bytes "2.0") ⌝ }
-{
-    let mut spelt = [0; 32768];
-    let n = texts::gather_text(file, i, &mut spelt);
-    is_version(&spelt[..n])
-}
-
-// Is the text of the element at i the version that is carried? Nearly every text is one piece, and is read where it stands.
-fn has_version(file: &[u8], i: usize) -> bool
-    ensures { λ r. ⌜ r ≡ same (shortText (now (file .entry)) i) (bytes "2.0") ⌝ }
-{
-    match pieces::single_text(file, i) {
-        Single::Part(a, b) => is_version(&file[a..b]),
-        Single::Pieces => has_joined_version(file, i),
-    }
-}
-
-// Is the text of the element at i read for its value, and has none?
-pub fn is_misspelt(file: &[u8], i: usize, kind: usize) -> bool
-    ensures { λ r. ⌜ r ≡ misspelt kind (now (file .entry)) i ⌝ }
+// Has an element of that kind a text of its own?
+pub fn is_worded(kind: usize) -> bool
+    ensures { λ r. ⌜ r ≡ worded kind ⌝ }
 {
     match kind {
-        kinds::VERSION => {
-            let good = has_version(file, i);
-            !good
-        }
-        kinds::CHANNEL => {
-            let w = fields::channel_number(file, i);
-            is_bad(w)
-        }
+        kinds::VERSION => true,
+        kinds::CHANNEL => true,
+        kinds::EXPRESSION => true,
         _ => false,
     }
 }
 
-// Has the element at i a text that its kind may not have?
-pub fn bad_text(file: &[u8], i: usize, kind: usize) -> bool
-    ensures { λ r. ⌜ r ≡ badText kind (now (file .entry)) i ⌝ }
+// Has an element of the kind a text that it may not have? Where it is read for its value, that is known.
+pub fn bad_text(file: &[u8], kind: usize, body: Body, misspelt: bool) -> bool
+    ensures { λ r. ⌜ r ≡ badIn kind misspelt (textIn (now (file .entry)) body) ⌝ }
 {
-    match kind {
-        kinds::VERSION => is_misspelt(file, i, kind),
-        kinds::EXPRESSION => is_misspelt(file, i, kind),
-        kinds::CHANNEL => is_misspelt(file, i, kind),
-        _ => texts::has_text(file, i),
+    if is_worded(kind) {
+        return misspelt;
     }
+    let o = texts::inner_start(file, body);
+    texts::has_text(file, o)
 }
 
 // The first of 5, 6, 7 for a value, by the attributes and whether the text is bad; 0 if there is none.

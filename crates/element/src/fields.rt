@@ -1,16 +1,15 @@
-// The channel in an element's text, and one value by its attribute's name.
+// What an element's text says, and one value by its attribute's name.
 //
 // Promises: each answer is the function of the bytes that specs/ElementCode.antt gives, for every input, whether the element has faults or not.
 ghost use mathlib.Core.Path.{_≡_};
-ghost use Rattle.values.specs.Values.{worthOf};
 ghost use Rattle.shape.specs.Text.{trimmed};
-ghost use Rattle.file_rules.specs.Element.{goodOf};
-ghost use Rattle.schema.specs.Schema.{_to_};
-ghost use Rattle.element.specs.ElementCode.{numbered, textNumber, valueAt};
+ghost use Rattle.element.specs.ElementCode.{worthSaid, saidAs, said, shortIn, valueAt};
 use schema::kinds;
+use values::BAD_VALUE;
 use values::Sort;
 use values::Worth;
 use values::sorts;
+use walk::Body;
 use walk::Part;
 use walk::TagPart;
 use walk::pieces;
@@ -21,58 +20,82 @@ use walk::trims;
 
 const LAST_CHANNEL: u32 = 4;
 
-// The channel that a text names, blanks at its ends aside.
-fn number_in(text: &[u8]) -> Worth
-    ensures { λ r. ⌜ r ≡ worthOf (0 to 4) (trimmed (now (text .entry))) ⌝ }
+// What a text says: is it read for its value and has none, and the number that it gives, else 0.
+pub struct Said {
+    pub misspelt: bool,
+    pub number: u32,
+}
+
+fn said_of(w: Worth) -> Said
+    ensures { λ r. ⌜ r ≡ worthSaid w ⌝ }
+{
+    match w {
+        Worth::Good(v) => Said {
+            misspelt: false,
+            number: v,
+        },
+        Worth::Refused(n) => Said {
+            misspelt: n == BAD_VALUE,
+            number: 0,
+        },
+    }
+}
+
+// A text as a channel, or as the version that is carried, blanks at its ends aside.
+fn said_as(channel: bool, text: &[u8]) -> Said
+    ensures { λ r. ⌜ r ≡ saidAs channel (trimmed (now (text .entry))) ⌝ }
 {
     let part = trims::trim(text);
     let a = part.from;
     let e = part.to;
-    let sort = Sort::Numeric {
-        lo: 0,
-        hi: LAST_CHANNEL,
-        most: LAST_CHANNEL,
-    };
-    sorts::worth_of(sort, &text[a..e])
-}
-
-fn good_of(w: Worth) -> u32
-    ensures { λ r. ⌜ r ≡ goodOf w ⌝ }
-{
-    match w {
-        Worth::Good(v) => v,
-        Worth::Refused(_) => 0,
+    if channel {
+        let sort = Sort::Numeric {
+            lo: 0,
+            hi: LAST_CHANNEL,
+            most: LAST_CHANNEL,
+        };
+        let w = sorts::worth_of(sort, &text[a..e]);
+        return said_of(w);
+    }
+    let good = text::texts::same_text(&text[a..e], b"2.0");
+    Said {
+        misspelt: !good,
+        number: 0,
     }
 }
 
-// The channel that the text of the element at i names, its pieces joined in a buffer.
-fn joined_number(file: &[u8], i: usize) -> Worth
-    ensures { λ r. ⌜ r ≡ numbered (now (file .entry)) i ⌝ }
+// The text of an element, its pieces joined in a buffer.
+fn joined_as(channel: bool, file: &[u8], body: Body) -> Said
+    ensures { λ r. ⌜ r ≡ saidAs channel (shortIn (now (file .entry)) body) ⌝ }
 {
-    let mut text = [0; 32768];
-    let n = texts::gather_text(file, i, &mut text);
-    number_in(&text[..n])
+    let mut joined = [0; 32768];
+    let o = texts::inner_start(file, body);
+    let n = texts::gather_from(file, o, &mut joined);
+    said_as(channel, &joined[..n])
 }
 
-// The channel that the text of the element at i names. Nearly every text is one piece, and is read where it stands.
-pub fn channel_number(file: &[u8], i: usize) -> Worth
-    ensures { λ r. ⌜ r ≡ numbered (now (file .entry)) i ⌝ }
+// Nearly every text is one piece, and is read where it stands.
+fn text_as(channel: bool, file: &[u8], body: Body) -> Said
+    ensures { λ r. ⌜ r ≡ saidAs channel (shortIn (now (file .entry)) body) ⌝ }
 {
-    match pieces::single_text(file, i) {
-        Single::Part(a, b) => number_in(&file[a..b]),
-        Single::Pieces => joined_number(file, i),
+    match pieces::text_in(file, body) {
+        Single::Part(a, b) => said_as(channel, &file[a..b]),
+        Single::Pieces => joined_as(channel, file, body),
     }
 }
 
-// The number that the text of the element at i gives, which is of the kind: 0 but for a CHANNEL.
-pub fn text_number(file: &[u8], i: usize, kind: usize) -> u32
-    ensures { λ r. ⌜ r ≡ textNumber kind (now (file .entry)) i ⌝ }
+// What the text of an element of the kind says.
+pub fn read_text(file: &[u8], kind: usize, body: Body) -> Said
+    ensures { λ r. ⌜ r ≡ said kind (shortIn (now (file .entry)) body) ⌝ }
 {
-    if kinds::is_same(kind, kinds::CHANNEL) {
-        let w = channel_number(file, i);
-        return good_of(w);
+    match kind {
+        kinds::VERSION => text_as(false, file, body),
+        kinds::CHANNEL => text_as(true, file, body),
+        _ => Said {
+            misspelt: false,
+            number: 0,
+        },
     }
-    0
 }
 
 // The value of the attribute of that name of the element at i; nothing at 0 if it has none.

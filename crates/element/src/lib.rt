@@ -1,15 +1,15 @@
 // One known element: its attributes, its faults, the number in its text.
 //
-// The root gathers the attributes, and says where the start tag ends. faults: its own faults (refusals 5 to 7). fields: the channel in its text, one
-// value by name.
+// The root gathers the attributes, and says where the start tag ends. faults: its own faults (refusals 5 to 7). fields: what its text says, one value
+// by name.
 // Promises: each answer is the function of the bytes that specs/ElementCode.antt gives, for every input; proofs/Laws.antt says that on a
 // well-shaped file these are the faults and values of crates/file_rules/specs/Element.antt.
 // May not touch: other elements. Which elements are known, and what their parent holds already, it is told.
 ghost use mathlib.Core.Path.{_≡_};
 ghost use Prim.Native.Nat.{_<_};
-ghost use Rattle.walk.specs.WalkCode.{contentAt};
+ghost use Rattle.walk.specs.WalkCode.{contentBehind};
 ghost use Rattle.schema.specs.SchemaCode.{attributeCount};
-ghost use Rattle.element.specs.ElementCode.{rulesFor, nothingGathered, putWorth, unfitted, judged, gatheredAt};
+ghost use Rattle.element.specs.ElementCode.{rulesFor, nothingGathered, putWorth, unfitted, judged, gatheredBehind};
 
 pub mod faults;
 pub mod fields;
@@ -99,13 +99,12 @@ fn judge(g: Gathered, kind: usize, name: &[u8], text: &[u8]) -> Gathered
     put(g, a, w)
 }
 
-// The start tag of the element at i, which is of the kind.
-pub fn gather(file: &[u8], i: usize, kind: usize) -> Tag
-    ensures { λ r. ⌜ (r .gathered ≡ gatheredAt (rulesFor kind) (now (file .entry)) i) × (r .body ≡ contentAt (now (file .entry)) i) ⌝ }
+// The start tag of an element of the kind, from behind its name.
+pub fn gather(file: &[u8], to: usize, kind: usize) -> Tag
+    ensures { λ r. ⌜ (r .gathered ≡ gatheredBehind (rulesFor kind) (now (file .entry)) to) × (r .body ≡ contentBehind (now (file .entry)) to) ⌝ }
 {
-    let n = tags::name_of(file, i);
     let mut gathered = nothing();
-    let mut j = n.to;
+    let mut j = to;
     while j < file.len() {
         match tags::part_at(file, j) {
             TagPart::Attribute(a, e, c, k) => {

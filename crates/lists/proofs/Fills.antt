@@ -5,7 +5,7 @@ use mathlib.Core.List.{List, [], _∷_, _++_, zipWith, append-nil, append-assoc}
 use native.Mathlib.Omega.{arith}
 use native.Mathlib.Numerals.{add-one}
 use native.Mathlib.Nat.{zero-min, suc-min-suc}
-use lib.ListN.{length, getD, set, take, drop, drop-of-length-le, length-append, length-drop, length-set, take-append-drop}
+use lib.ListN.{length, getD, set, take, drop, drop-of-length-le, length-append, length-drop, length-set, length-take, take-append-drop}
 use lib.Seq.{take-suc, take-all, take-nil, take-at, take-suc-set, drop-cons, drop-drop, drop-at, drop-set-lt, append-snoc, length-take-le, set-at, getD-at}
 use Rattle.lists.specs.FillsCode.{Filled}
 
@@ -125,3 +125,14 @@ module _ {A B C : Type 0} (f : A → B → C) where
   zip-at (x ∷ xs) [] i a₀ b₀ c₀ h k = absurd (omega arith)
   zip-at (x ∷ xs) (y ∷ ys) zero a₀ b₀ c₀ h k = refl
   zip-at (x ∷ xs) (y ∷ ys) (suc i) a₀ b₀ c₀ h k = zip-at xs ys i a₀ b₀ c₀ (omega arith) (omega arith)
+
+-- the first n of a list, n being no more than there are
+module _ {X : Type 0} (xs : List X) (count n : ℕ) (e : n ≡ length (take count xs)) where
+  pub cut-is : take n xs ≡ take count xs
+  cut-is = ap (λ (k : ℕ). take k xs) (e ∙ length-take count xs) ∙ taken count xs
+
+  pub cut-there : n ≤ length xs
+  cut-there = omega (arith, length-take count xs)
+
+  pub cut-long : length (take n xs) ≡ n
+  cut-long = ap length cut-is ∙ sym e

@@ -20,14 +20,14 @@ use Rattle.records.specs.Records.{PlanStatement, triggerWords, filterWords, act
 use Rattle.code.specs.HeightsCode.{soundCode}
 use Rattle.loader.specs.Plan.{Plan, wordsOf, statementIn, inRange}
 use Rattle.loader.proofs.RecordLaws.{cause-long}
-use Rattle.schema.specs.Schema.{oneOf, under, rulesOf}
+use Rattle.schema.specs.Schema.{oneOf, rulesOf}
 use Rattle.grammar.specs.Outcome.{Becomes}
 use Rattle.file_rules.specs.Element.{Known, Fault, _at_if_, worthBy, isBad, isNotCarried, tooMany, misfit, crossed, misworded, ownFaults}
 use Rattle.file_rules.specs.Reading.{is}
 use Rattle.file_rules.specs.Document.{knownElements, placeOf, lacks, elementFaults}
 use Rattle.document.proofs.Stood.{Stood, All, all-stood}
 use Rattle.file_rules.specs.Tables.{kept, isIn, within, nameOf, expressionsOf, expressionOf, namesOf, usedNames, gap, channelNamed, channelsIn, tableFaults}
-use Rattle.tables.proofs.Nested.{nested-known, all-mapped, all-within, all-kept}
+use Rattle.tables.proofs.Nested.{all-mapped, all-within, all-kept}
 use Rattle.converter.specs.declared.Converted.the-variants.{Words, Refused}
 use Rattle.converter.specs.Converter.{planFor, faultOf, Composes, Judged, Meets, Refuses, Converts}
 use Rattle.read_back.proofs.Takes.{in-range, no-faults}
@@ -117,7 +117,7 @@ module _ (t : ℕ) where
 
     pub expressions-low : All (λ k. All Placed (expressionsOf k)) (kept (is "STATEMENT") ks)
     expressions-low =
-        let h : All (λ k. All Placed (within k)) ks = all-within Placed (under []) ks (nested-known x) placed in
+        let h : All (λ k. All Placed (within k)) ks = all-within Placed x placed in
         all-mapped (λ k. (is "STATEMENT" k ≡ true) × All Placed (within k)) (λ k. All Placed (expressionsOf k))
         (λ k z. placed-kept (is "EXPRESSION") (within k) (z .1)) (kept (is "STATEMENT") ks)
         (all-kept (λ k. All Placed (within k)) (is "STATEMENT") ks h)

@@ -32,8 +32,8 @@ use Rattle.document.proofs.Few.{append-none}
 use Rattle.document.proofs.Stood.{All}
 use Rattle.file_rules.specs.Tables.{kept, isIn, within, nameOf, channelsOf, channelNamed, channelsIn, actionsOf, expressionsOf, expressionOf, namesOf, usedNames, gap, tableFaults}
 use Rattle.tables.proofs.Wanted.{Formed}
-use Rattle.tables.proofs.Nested.{nested-in, nested-known, all-within, all-mapped, all-zipped, all-kept, spread, eachName, eachPair}
-use Rattle.tables.proofs.Entries.{faultless-parts}
+use Rattle.tables.proofs.Nested.{Nested, all-within, all-inner, all-mapped, all-zipped, all-kept, spread, eachName, eachPair}
+use Rattle.tables.proofs.Entries.{faultless-parts, all-nested}
 use Rattle.tables.proofs.Counts.{few-triggers, few-filters, few-statements, few-parameters, some-parameters, all-formed, held-kept, any-none}
 use Rattle.converter.specs.Converter.{planFor, faultOf, Composes, Judged, Meets, Converts}
 use Rattle.converter.specs.declared.Converted.the-variants.{Words}
@@ -60,10 +60,9 @@ all-true ok g (k ∷ ks) h = rw (h .0) (all-true ok g ks (h .1))
 abbrev of-filters : List ℕ → Bool
 of-filters n = oneOf (under (bytes "FILTERS") .carried) n || same n (bytes "CHANNEL")
 
-only-channels : (k : Known) → isIn "FILTERS" k ≡ true → All (λ c. is "CHANNEL" c ≡ true) (within k)
+only-channels : (k : Known) → isIn "FILTERS" k ≡ true → Nested (k .name) (within k) → All (λ c. is "CHANNEL" c ≡ true) (within k)
 unfolding parentIn parents any bytes same eachName eachPair
-only-channels k h =
-    spread of-filters (λ n. same n (bytes "CHANNEL")) refl (k .name) (within k) (rw h refl) (nested-in (k .items) (under (k .name)) [])
+only-channels k h = spread of-filters (λ n. same n (bytes "CHANNEL")) refl (k .name) (within k) (rw h refl)
 
 named-channel : (c : Known) → is "CHANNEL" c ≡ true → channelNamed c ≡ goodOf (channelOf c) ∷ []
 unfolding channelNamed
@@ -217,35 +216,36 @@ module _ (x : Node) (e : elementFaults x ≡ []) (h : tableFaults (knownElements
   abbrev filterAs : Known → Filter
   filterAs k = filterOf (sumFrom 5 (channelsOf k)) k
 
-  filter-good : (k : Known) → isIn "FILTERS" k ≡ true → Clean k → lacks k ≡ false → All Low (within k)
+  filter-good : (k : Known) → isIn "FILTERS" k ≡ true → Clean k → lacks k ≡ false → All Low (within k) → Nested (k .name) (within k)
       → filterIn (2 ^ n) (filterAs k) ≡ true
-  filter-good k i c l w =
-      let low = channels-low n (within k) (only-channels k i) w in
+  filter-good k i c l w y =
+      let low = channels-low n (within k) (only-channels k i y) w in
       let s = some-inside k 5 l (filter-times k i) in
       let m = length-map (within k) (λ y. goodOf (channelOf y)) in
       filter-in k (c .fits) (c .bounds) (2 ^ n) (sumFrom 5 (channelsOf k)) (mask-low n (channelsOf k) n-top (omega (arith, s, m)) low)
       (mask-below n (channelsOf k) n-top low) i
 
   abbrev Ready : Known → Type 0
-  Ready k = Clean k × ((lacks k ≡ false) × All Low (within k))
+  Ready k = Clean k × ((lacks k ≡ false) × (All Low (within k) × Nested (k .name) (within k)))
 
   readies : All Ready ks
   readies =
-      all-zipped Clean (λ k. (lacks k ≡ false) × All Low (within k)) ks cleans
-      (all-zipped (λ k. lacks k ≡ false) (λ k. All Low (within k)) ks mets (all-within Low (under []) ks (nested-known x) lows))
+      all-zipped Clean (λ k. (lacks k ≡ false) × (All Low (within k) × Nested (k .name) (within k))) ks cleans
+      (all-zipped (λ k. lacks k ≡ false) (λ k. All Low (within k) × Nested (k .name) (within k)) ks mets
+      (all-zipped (λ k. All Low (within k)) (λ k. Nested (k .name) (within k)) ks (all-within Low x lows) (all-inner [] ks (all-nested x e))))
 
   filters-in : all (filterIn (2 ^ n)) (map filterAs (kept (isIn "FILTERS") ks)) ≡ true
   filters-in =
       all-true (filterIn (2 ^ n)) filterAs (kept (isIn "FILTERS") ks)
       (all-mapped (λ k. (isIn "FILTERS" k ≡ true) × Ready k) (λ k. filterIn (2 ^ n) (filterAs k) ≡ true)
-      (λ k z. filter-good k (z .0) (z .1 .0) (z .1 .1 .0) (z .1 .1 .1)) (kept (isIn "FILTERS") ks)
+      (λ k z. filter-good k (z .0) (z .1 .0) (z .1 .1 .0) (z .1 .1 .1 .0) (z .1 .1 .1 .1)) (kept (isIn "FILTERS") ks)
       (all-kept Ready (isIn "FILTERS") ks readies))
 
   -- a filter's channels are below 5, and it has both bounds of its length or none
   pub plain-filters : All Plain (kept (isIn "FILTERS") ks)
   plain-filters =
       all-mapped (λ k. (isIn "FILTERS" k ≡ true) × Ready k) Plain
-      (λ k z. (low-in n 5 (channelsOf k) n-top (channels-low n (within k) (only-channels k (z .0)) (z .1 .1 .1)), paired k (z .1 .0 .fits)))
+      (λ k z. (low-in n 5 (channelsOf k) n-top (channels-low n (within k) (only-channels k (z .0) (z .1 .1 .1 .1)) (z .1 .1 .1 .0)), paired k (z .1 .0 .fits)))
       (kept (isIn "FILTERS") ks)
       (all-kept Ready (isIn "FILTERS") ks readies)
 

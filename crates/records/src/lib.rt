@@ -2,7 +2,7 @@
 //
 // The root reads a record off its words; words: the words of one; sizes: how many it has, and the largest identifier.
 // Promises: each function answers by the definition of its record (specs/Records.antt), for every input.
-// May not touch: the plan as a whole. Which records make a plan is the loader's, where words go is the writer's.
+// May not touch: the plan as a whole. Which records make a plan is the loader's, where words go is the converter's.
 ghost use mathlib.Core.Path.{_≡_};
 ghost use lib.ListN.{getD};
 ghost use Rattle.records.specs.RecordsCode.{timeoutAt, triggerAt, effectAt, filterAt, actionAt};

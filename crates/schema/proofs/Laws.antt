@@ -2,22 +2,23 @@
 -- for does not depend on the element.
 use Prim.Native.Nat.{ℕ, _≤_, _<_}
 use Prim.Native.String.{String}
-use native.Mathlib.Omega.{arith}
 use mathlib.Core.Path.{_≡_, refl, sym, ap, _∙_}
 use mathlib.Core.List.{List, [], _∷_, map}
-use mathlib.Core.Bool.{Bool, true, false, cond, _&&_, _||_, true≢false}
+use mathlib.Core.Bool.{true, false, _&&_, _||_, true≢false}
 use lib.Dec.{leb, eqb}
-use lib.ListN.{length, getD, drop}
+use lib.ListN.{getD, drop}
 use borrow.Author.Tests.{le-leb, lt-leb, eqb-true, eqb-false}
 use Rattle.text.specs.Texts.{bytes, same}
 use Rattle.lists.proofs.Cases.{by-cases, le-or-lt}
 use Rattle.lists.proofs.Parts.{neither}
 use Rattle.text.proofs.Equal.{same-self, same-equal, same-back}
-use Rattle.values.specs.declared.Sort.{Sort}
 use Rattle.schema.specs.declared.Times.the-variants.{UpTo}
 use Rattle.lists.specs.Lists.{any}
-use Rattle.schema.specs.Schema.{Parent, _over_times_bars_, Rule, ElementRules, oneOf, parents, parentIn, under, elements, rulesIn, rulesOf}
-use Rattle.schema.specs.SchemaCode.{names, attributes, kindCount, attributeCount, nameIn, kindName, attributeName, positionOf, kindOf, attributeOf, isCarried, isBarred, heldIn, kindUnder, knows, apart, sortIn, allRules, sortOf}
+use Rattle.schema.specs.Schema.{Parent, _over_times_bars_, Rule, ElementRules}
+use Rattle.schema.specs.Schema.{oneOf, parents, parentIn, under, elements, rulesIn, rulesOf}
+use Rattle.schema.specs.SchemaCode.{names, attributes, kindCount, attributeCount, nameIn, kindName, attributeName}
+use Rattle.schema.specs.SchemaCode.{positionOf, kindOf, attributeOf, isCarried, isBarred, heldIn, kindUnder}
+use Rattle.schema.specs.SchemaCode.{knows, apart, sortIn, allRules, sortOf}
 use Rattle.lists.specs.BitsCode.{from}
 use Rattle.lists.proofs.BitLaws.{everywhere}
 use Rattle.schema.proofs.Tables.{one-back, past-last}
@@ -48,7 +49,8 @@ module _ {A : Type 0} (f g : List Rule → A) (none : f [] ≡ g []) (n : List �
   unfolding rulesIn
   each-rules [] q = none
   each-rules (e ∷ es) q =
-      by-cases (same n (bytes (e .name))) (λ t. rw t (ap (λ (l : List A). getD l 0 (f (e .rules))) q)) (λ t. rw t (each-rules es (ap (drop 1) q)))
+      by-cases (same n (bytes (e .name))) (λ t. rw t (ap (λ (l : List A). getD l 0 (f (e .rules))) q))
+      (λ t. rw t (each-rules es (ap (drop 1) q)))
 
   pub in-every-element : map (λ e. f (e .rules)) elements ≡ map (λ e. g (e .rules)) elements → f (rulesOf n) ≡ g (rulesOf n)
   in-every-element = each-rules elements
@@ -60,9 +62,11 @@ module _ {A : Type 0} (f g : List ℕ → A) (n : List ℕ) where
   unfolding any
   named [] e o = absurd (true≢false (sym o))
   named (x ∷ xs) e o =
-      by-cases (same n (bytes x)) (λ t. rw (same-equal n (bytes x) t) (ap (λ (l : List A). getD l 0 (f (bytes x))) e)) (λ t. named xs (ap (drop 1) e) (rw t at o))
+      by-cases (same n (bytes x)) (λ t. rw (same-equal n (bytes x) t) (ap (λ (l : List A). getD l 0 (f (bytes x))) e))
+      (λ t. named xs (ap (drop 1) e) (rw t at o))
 
-module _ {A : Type 0} (f g : Parent → A) (none : f ("" over [] times UpTo 0 bars []) ≡ g ("" over [] times UpTo 0 bars [])) (n : List ℕ) where
+module _ {A : Type 0} (f g : Parent → A)
+    (none : f ("" over [] times UpTo 0 bars []) ≡ g ("" over [] times UpTo 0 bars [])) (n : List ℕ) where
   each-parent : (ps : List Parent) → map f ps ≡ map g ps → f (parentIn ps n) ≡ g (parentIn ps n)
   unfolding parentIn
   each-parent [] q = none

@@ -1,22 +1,22 @@
 -- A table's rule at each of its entries, from one computed test; and names found by a key.
-use Prim.Native.Nat.{ℕ, zero, suc, _+_, _*_, _-_, _/_, _%_, _≤_, _<_}
+use Prim.Native.Nat.{ℕ, suc, _+_, _*_, _-_, _/_, _%_, _≤_, _<_}
 use Prim.Native.String.{String}
 use native.Mathlib.Omega.{arith}
-use native.Mathlib.Nat.{add-zero, add-suc, suc-add, zero-add, le-of-suc-le-suc, not-suc-le-zero, zero-mul, mul-le-mul-right}
+use native.Mathlib.Nat.{zero-mul, mul-le-mul-right}
 use native.Mathlib.Numerals.{one-add}
 use mathlib.Core.Path.{_≡_, refl, sym, ap, _∙_}
 use mathlib.Core.List.{List, [], _∷_, map}
-use mathlib.Core.Bool.{Bool, true, false, cond, _||_, true≢false}
+use mathlib.Core.Bool.{Bool, true, false, cond, true≢false}
 use mathlib.Core.Logic.{inl, inr}
-use lib.Dec.{eqb, ltb, leb}
+use lib.Dec.{eqb, leb}
 use lib.ListN.{length, getD, drop, List·getD-eq-default}
 use types.Run.{OneOf}
-use borrow.Author.Tests.{ltb-true, leb-true, eqb-true}
+use borrow.Author.Tests.{leb-true, eqb-true}
 use Rattle.text.specs.Texts.{bytes, same}
 use Rattle.lists.proofs.Cases.{by-cases, le-or-lt}
 use Rattle.text.proofs.Equal.{same-self, same-equal}
 use Rattle.schema.specs.Schema.{oneOf}
-use Rattle.schema.specs.SchemaCode.{nameIn, positionOf, startAt, keyOf, Lies}
+use Rattle.schema.specs.SchemaCode.{nameIn, positionOf, keyOf}
 use Rattle.lists.specs.Lists.{any}
 use Rattle.lists.specs.BitsCode.{upto}
 use Rattle.lists.proofs.BitLaws.{everywhere}
@@ -42,7 +42,8 @@ module _ (xs : List String) (m : ℕ) (size : length xs ≡ m) where
   module _ (n : List ℕ) (k : ℕ) (r : Bool) (e : r ≡ same (nameIn xs k) n) where
     pub met : map (λ j. positionOf (nameIn xs j) xs) (upto m) ≡ map (λ j. j) (upto m) → k < m → r ≡ true → k ≡ positionOf n xs
     met own h t =
-        sym (everywhere (λ j. positionOf (nameIn xs j) xs) (λ j. j) m own k h) ∙ ap (λ (s : List ℕ). positionOf s xs) (same-equal (nameIn xs k) n (sym e ∙ t))
+        sym (everywhere (λ j. positionOf (nameIn xs j) xs) (λ j. j) m own k h)
+        ∙ ap (λ (s : List ℕ). positionOf s xs) (same-equal (nameIn xs k) n (sym e ∙ t))
 
     pub unmet : (g : List ℕ → ℕ) → map (λ j. g (nameIn xs j)) (upto m) ≡ map (λ j. j) (upto m) → k ≡ g n → r ≡ false → m ≡ positionOf n xs
     unmet g own q t =
@@ -61,27 +62,17 @@ unfolding keyOf
 key-none w [] h = rw (zero-mul w)
 key-none w (b ∷ n) h = absurd (omega arith)
 
-pub key-some : (w : ℕ) (n : List ℕ) (a b c : ℕ) → a ≡ getD n 0 0 → b ≡ getD n (length n - 1) 0 → c ≡ getD n (length n / 2) 0 → (length n % 128 * 4 + a + b * w + c) % 128 ≡ keyOf w n
+pub key-some : (w : ℕ) (n : List ℕ) (a b c : ℕ) → a ≡ getD n 0 0 → b ≡ getD n (length n - 1) 0 → c ≡ getD n (length n / 2) 0
+    → (length n % 128 * 4 + a + b * w + c) % 128 ≡ keyOf w n
 unfolding keyOf
 key-some w n a b c x y z = rw (x, y, z)
 
 pub low-product : (a w : ℕ) → a < 256 → w < 64 → a * w < 16384
 low-product a w h g = let l : a * w ≤ 255 * w = mul-le-mul-right w (omega arith) in omega arith
 
--- ---- bounds
--- every number of a table is below a bound
-pub below : (t : List ℕ) (m n k : ℕ) → map (λ j. ltb (getD t j 0) m) (upto n) ≡ map (λ j. true) (upto n) → k < n → getD t k 0 < m
-below t m n k e h = ltb-true (getD t k 0) m (everywhere (λ j. ltb (getD t j 0) m) (λ j. true) n e k h)
-
-pub lies : (t s : List ℕ) (m k : ℕ) → k < m → m * 2 + 2 ≡ length s
-    → map (λ j. leb (startAt s j) (startAt s (j + 1))) (upto m) ≡ map (λ j. true) (upto m)
-    → map (λ j. leb (startAt s (j + 1)) (length t)) (upto m) ≡ map (λ j. true) (upto m) → Lies t s k
-lies t s m k h z e f =
-    record {
-      few = omega arith;
-      before = leb-true _ _ (everywhere (λ j. leb (startAt s j) (startAt s (j + 1))) (λ j. true) m e k h);
-      within = leb-true _ _ (everywhere (λ j. leb (startAt s (j + 1)) (length t)) (λ j. true) m f k h);
-    }
+-- every number of a table is at most that of another
+pub at-most : (f g : ℕ → ℕ) (m : ℕ) → map (λ j. leb (f j) (g j)) (upto m) ≡ map (λ j. true) (upto m) → (k : ℕ) → k < m → f k ≤ g k
+at-most f g m e k h = leb-true (f k) (g k) (everywhere (λ j. leb (f j) (g j)) (λ j. true) m e k h)
 
 -- ---- what a `match` tells of a number, in an arm with the keys ks, and in the arm behind arms with the keys kss, the last first
 abbrev isIn : ℕ → List ℕ → Bool
@@ -109,6 +100,10 @@ module _ {A : Type 0} (f : ℕ → A) (x : A) where
   in-arm (k ∷ l ∷ ks) q e (inl o) = sym (ap f o ∙ ap (λ (l : List A). getD l 0 x) q)
   in-arm (k ∷ l ∷ ks) q e (inr o) = in-arm (l ∷ ks) (ap (drop 1) q) e o
 
+  pub rest-below : (m : ℕ) (kss : List (List ℕ)) → map (λ k. cond (any (isIn k) kss) x (f k)) (upto m) ≡ map (λ k. x) (upto m)
+      → (e : ℕ) → e < m → NoneOf kss e → x ≡ f e
+  rest-below m kss q e l h = sym (rw (none-in kss e h) at (everywhere (λ k. cond (any (isIn k) kss) x (f k)) (λ k. x) m q e l))
+
 -- behind the last name there is none
 pub past-last : {A : Type 0} (xs : List String) (m : ℕ) → length xs ≡ m → (f : List ℕ → A) (x : A) → x ≡ f (bytes "?")
     → (e : ℕ) → m ≤ e → x ≡ f (nameIn xs e)
@@ -117,13 +112,11 @@ past-last xs m size f x z e l = z ∙ ap (λ (s : String). f (bytes s)) (sym (Li
 
 -- f speaks of names, of which there are m
 module _ {A : Type 0} (xs : List String) (m : ℕ) (size : length xs ≡ m) (f : List ℕ → A) (x : A) where
-  pub in-rest : (kss : List (List ℕ)) → map (λ k. cond (any (isIn k) kss) x (f (nameIn xs k))) (upto m) ≡ map (λ k. x) (upto m) → x ≡ f (bytes "?")
-      → (e : ℕ) → NoneOf kss e → x ≡ f (nameIn xs e)
+  pub in-rest : (kss : List (List ℕ)) → map (λ k. cond (any (isIn k) kss) x (f (nameIn xs k))) (upto m) ≡ map (λ k. x) (upto m)
+      → x ≡ f (bytes "?") → (e : ℕ) → NoneOf kss e → x ≡ f (nameIn xs e)
   unfolding nameIn
   in-rest kss q z e h =
-      le-or-lt m e
-      (λ l. past-last xs m size f x z e l)
-      (λ l. sym (rw (none-in kss e h) at (everywhere (λ k. cond (any (isIn k) kss) x (f (nameIn xs k))) (λ k. x) m q e l)))
+      le-or-lt m e (λ l. past-last xs m size f x z e l) (λ l. rest-below (λ k. f (nameIn xs k)) x m kss q e l h)
 
 -- ---- a name that stands in the list, and one that does not
 module _ (n : List ℕ) (xs : List String) where

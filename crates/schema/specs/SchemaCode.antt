@@ -1,6 +1,6 @@
--- Numbers for the elements and the attributes that the tables name, and what the tables say of these numbers: the code's own tables. Nothing
--- here has to be believed.
-use Prim.Native.Nat.{ℕ, _+_, _*_, _-_, _/_, _%_, _≤_, _<_}
+-- Numbers for the elements and the attributes that the tables name, and what the tables say of these numbers: the code's own tables.
+-- Nothing here has to be believed.
+use Prim.Native.Nat.{ℕ, _+_, _*_, _-_, _/_, _%_}
 use Prim.Native.String.{String}
 use mathlib.Core.List.{List, [], _∷_, _++_}
 use mathlib.Core.Bool.{Bool, true, not, cond, _&&_, _||_}
@@ -104,25 +104,16 @@ apart [] = true
 apart (r ∷ rs) = not (knows rs (bytes (r .name))) && apart rs
 
 -- ---- names by a key
--- all names in a row, and where each starts, in two bytes
+-- all names in a row, and where each starts
 unfoldable pub inRow : List String → List ℕ
 inRow [] = []
 inRow (x ∷ xs) = bytes x ++ inRow xs
 
-unfoldable pub startsFrom : ℕ → List String → List ℕ
-startsFrom i [] = i / 256 ∷ i % 256 ∷ []
-startsFrom i (x ∷ xs) = i / 256 ∷ i % 256 ∷ startsFrom (i + length (bytes x)) xs
+abbrev pub startOf : List String → ℕ → ℕ
+startOf xs k = length (inRow (take k xs))
 
-abbrev pub startAt : List ℕ → ℕ → ℕ
-startAt s k = getD s (k * 2) 0 * 256 + getD s (k * 2 + 1) 0
-
-abbrev pub part : List ℕ → List ℕ → ℕ → List ℕ
-part t s k = take (startAt s (k + 1) - startAt s k) (drop (startAt s k) t)
-
-pub record Lies (t s : List ℕ) (k : ℕ) : Type 0 where
-  pub few : k * 2 + 3 < length s
-  pub before : startAt s k ≤ startAt s (k + 1)
-  pub within : startAt s (k + 1) ≤ length t
+abbrev pub part : List String → ℕ → List ℕ
+part xs k = take (startOf xs (k + 1) - startOf xs k) (drop (startOf xs k) (inRow xs))
 
 -- a number below 128 by which names are told apart, w being the weight of the last letter; and by that number, which name it may be
 unfoldable pub keyOf : ℕ → List ℕ → ℕ
@@ -132,5 +123,12 @@ unfoldable pub keysFrom : ℕ → ℕ → List String → List ℕ → List ℕ
 keysFrom w k [] t = t
 keysFrom w k (x ∷ xs) t = keysFrom w (k + 1) xs (set t (keyOf w (bytes x)) k)
 
-abbrev pub keysOf : ℕ → List String → List ℕ
-keysOf w xs = keysFrom w 0 xs (replicate 128 0)
+abbrev pub keyed : ℕ → List String → ℕ → ℕ
+keyed w xs key = getD (keysFrom w 0 xs (replicate 128 0)) key 0
+
+-- the weights by which they all are
+abbrev pub elementWeight : ℕ
+elementWeight = 11
+
+abbrev pub attributeWeight : ℕ
+attributeWeight = 25

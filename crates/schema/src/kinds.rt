@@ -215,7 +215,7 @@ pub fn kind_under(parent: usize, name: &[u8]) -> usize
     KINDS
 }
 
-// The kinds that are carried where they may stand, 1 to 23.
+// The kinds that are carried where they may stand.
 const CARRIED: u64 = (1 << PARAMETERS_FD) - (1 << KVASER);
 
 // Those behind them are known only.

@@ -15,14 +15,13 @@ use Rattle.file_rules.specs.Reading.{is}
 use Rattle.document.specs.EntriesCode.{Entry, entryOf, numberIn}
 use Rattle.document.proofs.Stood.{All}
 use Rattle.tables.specs.declared.rows.Head.{Head}
-use Rattle.tables.specs.RowsCode.{folded, noNames, tellName, told}
+use Rattle.tables.specs.RowsCode.{folded, noNames, tellName, noHead, tellHead, told}
 use Rattle.file_rules.specs.declared.Refusal.{Refusal}
 use Rattle.file_rules.specs.Tables as Tables
 use Rattle.file_rules.specs.Tables.{kept, isIn, usedNames, gap, channelNamed, channelsIn, tableFaults}
 use Rattle.tables.specs.TablesCode.{usedFrom, nameFault, firstWhere, busFault, isBeyond, channelFault, orElse, tableFault}
 use Rattle.file_rules.specs.RefusalCode.{refusedAt}
 use Rattle.tables.proofs.Wanted.{Fit, firstOf}
-use Rattle.tables.proofs.Entries.{told-head, told-names}
 use Rattle.tables.proofs.Readings.{trigger-ruled, number-is}
 use Rattle.tables.proofs.Tells.{names-law, places-law, HeadHold, head-law}
 use Rattle.lists.specs.Lists.{any, gathered}
@@ -107,20 +106,20 @@ module _ (f : List ℕ) (n : ℕ) (k : Known) (y : Fit f k) where
 -- ---- all of them
 module _ (f : List ℕ) (ks : List Known) (y : All (Fit f) ks) where
   name-law : length (kept (isIn "TRIGGERS") ks) ≤ 32 → (rest : List Fault)
-      → firstOf (usedNames [] (kept (isIn "TRIGGERS") ks) ++ rest) ≡ orElse (nameFault f (told f (map entryOf ks) .names)) (firstOf rest)
+      → firstOf (usedNames [] (kept (isIn "TRIGGERS") ks) ++ rest) ≡ orElse (nameFault f (folded (tellName f) noNames (map entryOf ks))) (firstOf rest)
   unfolding nameFault
   name-law h rest =
       let ms = kept (isIn "TRIGGERS") ks in
       let u : usedFrom [] (map Tables.nameOf ms) (map (λ k. k .place) ms)
       ≡ nameFault f (folded (tellName f) noNames (map entryOf ks)) = rw (names-law f ks y h, places-law f ks y h) refl in
-      used-law rest [] ms ∙ ap (λ (r : Refusal). orElse r (firstOf rest)) (u ∙ sym (ap (nameFault f) (told-names f (map entryOf ks))))
+      used-law rest [] ms ∙ ap (λ (r : Refusal). orElse r (firstOf rest)) u
 
   module _ (h : length (kept (is "PARAMETERS") ks) ≤ 5) where
     abbrev head : Head
-    head = told f (map entryOf ks) .head
+    head = folded tellHead noHead (map entryOf ks)
 
     held : HeadHold head ks
-    held = rw (told-head f (map entryOf ks)) (head-law f ks y h)
+    held = head-law f ks y h
 
     channels-are : head .channels ≡ length (channelsIn ks)
     channels-are = held .channels ∙ sym (length-map (kept (is "PARAMETERS") ks) (λ k. valueOf k "channel"))
@@ -158,10 +157,10 @@ module _ (f : List ℕ) (ks : List Known) (y : All (Fit f) ks) where
 
 pub fault-law : (f : List ℕ) (ks : List Known) → All (Fit f) ks → length (kept (isIn "TRIGGERS") ks) ≤ 32
     → length (kept (is "PARAMETERS") ks) ≤ 5 → tableFault f (map entryOf ks) (told f (map entryOf ks)) ≡ firstOf (tableFaults ks)
-unfolding tableFault tableFaults
+unfolding tableFault tableFaults told
 fault-law f ks y t h =
     let bs = gathered (λ k. 10 at k .place if gap (length (channelsIn ks)) (channelsIn ks)) (kept (is "CAN_BUS") ks) in
     let cs = gathered (λ k. 10 at k .place if any (leb (length (channelsIn ks))) (channelNamed k)) ks in
     sym
-    (name-law f ks y t (bs ++ cs) ∙ ap (orElse (nameFault f (told f (map entryOf ks) .names)))
-    (bus-law f ks y h cs ∙ ap (orElse (busFault (told f (map entryOf ks) .head) (map entryOf ks))) (channels-law f ks y h)))
+    (name-law f ks y t (bs ++ cs) ∙ ap (orElse (nameFault f (folded (tellName f) noNames (map entryOf ks))))
+    (bus-law f ks y h cs ∙ ap (orElse (busFault (folded tellHead noHead (map entryOf ks)) (map entryOf ks))) (channels-law f ks y h)))

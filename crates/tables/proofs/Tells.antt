@@ -1,4 +1,4 @@
--- What is told of the known elements of a document: its triggers, their names, and the head.
+-- What is told of the known elements of a document: its triggers' names, and the head.
 use Prim.Native.Nat.{ℕ, _+_, _≤_, _<_}
 use native.Mathlib.Omega.{arith}
 use mathlib.Core.Path.{_≡_, refl, sym, ap, _∙_}
@@ -23,15 +23,14 @@ use Rattle.element.specs.ElementCode.{valueAt}
 use Rattle.lists.proofs.Parts.{neither}
 use Rattle.element.proofs.Laws.{spelled-law}
 use Rattle.grammar.specs.TokensCode.{spans, namesIn}
-use Rattle.file_rules.specs.Reading.{is, triggerOf}
-use Rattle.tables.proofs.Readings.{ranged-top, parameters-ruled, mode-ruled, clean, number-is, trigger-is}
+use Rattle.file_rules.specs.Reading.{is}
+use Rattle.tables.proofs.Readings.{ranged-top, parameters-ruled, mode-ruled, clean, number-is}
 use Rattle.document.specs.EntriesCode.{Entry, entryOf, numberIn}
 use Rattle.document.proofs.Absorbs.{any-append}
 use Rattle.document.proofs.Stood.{All}
-use Rattle.writer.specs.declared.Triggers.{Triggers}
 use Rattle.tables.specs.declared.rows.Names.{Names}
 use Rattle.tables.specs.declared.rows.Head.{Head}
-use Rattle.tables.specs.RowsCode.{noHead, tellHead, folded, noTrigger, noTriggers, pushTrigger, tellTrigger, noNames, pushName, tellName}
+use Rattle.tables.specs.RowsCode.{noHead, tellHead, folded, noNames, pushName, tellName}
 use Rattle.file_rules.specs.Tables as Tables
 use Rattle.file_rules.specs.Tables.{kept, isIn, channelsIn}
 use Rattle.tables.specs.TablesCode.{namesAt}
@@ -69,33 +68,6 @@ module _ {S : Type 0} (step : S → Entry → S) (f : List ℕ) (p : Known → B
   fold-holds : (ks : List Known) (s : S) → All (Fit f) ks → length (kept p ks) ≤ most → Holds s []
       → Holds (folded step s (map entryOf ks)) ks
   fold-holds = fold-from []
-
--- ---- triggers
-module _ (f : List ℕ) where
-  abbrev TriggersHold : Triggers → List Known → Type 0
-  TriggersHold t ds = Filled (map triggerOf (kept (isIn "TRIGGERS") ds)) (replicate 32 noTrigger) (t .rows) (t .count)
-
-  trigger-turn : (t : Triggers) (ds : List Known) (k : Known) → Fit f k → length (kept (isIn "TRIGGERS") (ds ++ (k ∷ []))) ≤ 32
-      → TriggersHold t ds → TriggersHold (tellTrigger t (entryOf k)) (ds ++ (k ∷ []))
-  unfolding tellTrigger pushTrigger
-  trigger-turn t ds k y h z =
-      by-cases (isIn "TRIGGERS" k)
-      (λ u.
-      let ms = kept (isIn "TRIGGERS") ds in
-      let e = kept-in (isIn "TRIGGERS") ds k u in
-      let n : length (ms ++ (k ∷ [])) ≤ 32 = rw e at h in
-      let c : t .count < 32 = omega (arith, n, length-append ms (k ∷ []), filled-count z, length-map ms triggerOf) in
-      rw (trigger-is f k y u, y .named, u, lt-ltb (t .count) 32 c, e, map-append triggerOf ms (k ∷ []))
-      (filled-one (map triggerOf ms) (replicate 32 noTrigger) (t .rows) (t .count) (t .count + 1) (triggerOf k) z c refl))
-      (λ u. rw (y .named, u, kept-out (isIn "TRIGGERS") ds k u) z)
-
-  pub triggers-law : (ks : List Known) → All (Fit f) ks → length (kept (isIn "TRIGGERS") ks) ≤ 32
-      → take (folded tellTrigger noTriggers (map entryOf ks) .count) (folded tellTrigger noTriggers (map entryOf ks) .rows)
-      ≡ map triggerOf (kept (isIn "TRIGGERS") ks)
-  unfolding kept
-  triggers-law ks y h =
-      fold-holds tellTrigger f (isIn "TRIGGERS") 32 TriggersHold trigger-turn ks noTriggers y h
-      (filled-none (replicate 32 noTrigger)) .words
 
 -- ---- names
 -- an attribute that the rules require is given

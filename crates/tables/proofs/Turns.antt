@@ -1,23 +1,22 @@
 -- The loops: over names, each compared with those before it, and over entries.
-use Prim.Native.Nat.{ℕ, zero, suc, _+_, _≤_, _<_}
+use Prim.Native.Nat.{ℕ, zero, suc, _+_, _≤_, _<_, min}
 use native.Mathlib.Omega.{arith}
 use native.Mathlib.Numerals.{add-one}
 use mathlib.Core.Path.{_≡_, refl, sym, ap, _∙_}
 use mathlib.Core.List.{List, [], _∷_, _++_}
 use mathlib.Core.Bool.{Bool, true, false}
-use lib.ListN.{length, getD, take, drop, drop-of-length-le}
+use lib.ListN.{length, getD, take, drop, length-take, drop-of-length-le}
 use lib.Seq.{take-all}
 use borrow.Author.Tests.{eq-eqb, ne-eqb}
 use Rattle.text.specs.Texts.{same}
 use Rattle.text.proofs.Spans.{drop-one}
 use Rattle.grammar.specs.TokensCode.{spans, namesIn}
-use Rattle.writer.proofs.Writes.{cut-is}
+use Rattle.lists.proofs.Fills.{cut-is}
 use Rattle.document.specs.EntriesCode.{Entry, entriesIn}
 use Rattle.tables.specs.declared.rows.Names.{Names}
-use Rattle.tables.specs.declared.rows.Told.{Told}
-use Rattle.tables.specs.RowsCode.{entryAt, told}
+use Rattle.tables.specs.RowsCode.{entryAt}
 use Rattle.file_rules.specs.declared.Refusal.{Refusal}
-use Rattle.tables.specs.TablesCode.{usedFrom, nameFault, firstWhere, orElse, tableFault, tabled}
+use Rattle.tables.specs.TablesCode.{usedFrom, nameFault, firstWhere, orElse}
 use Rattle.file_rules.specs.RefusalCode.{refusedAt}
 use Rattle.tables.proofs.RowsTurns.{Next, entries-next, entries-over}
 use Rattle.lists.specs.Lists.{any}
@@ -88,6 +87,10 @@ module _ (f ss es ps : List ℕ) (l : length ss ≡ length es) (k : length ss �
   unfolding usedFrom
   passed-all h = sym (sym x ∙ rw (spans-over f ss es l i h))
 
+-- a count, cut at the end of an array of m
+pub clamped : {X : Type 0} (xs : List X) (count m n : ℕ) → length xs ≡ m → n ≡ min count m → (n ≡ length (take count xs)) × (n ≤ m)
+clamped xs count m n l e = (e ∙ ap (min count) (sym l) ∙ sym (length-take count xs), omega arith)
+
 few-spans : (f ss es : List ℕ) → length (spans f ss es) ≤ length ss
 unfolding spans
 few-spans f [] es = omega arith
@@ -136,14 +139,3 @@ or-first r a b e h = rw (← e, ne-eqb (r .number) 0 h)
 
 pub or-second : (r a b : Refusal) → r ≡ a → r .number ≡ 0 → b ≡ orElse a b
 or-second r a b e h = rw (← e, eq-eqb (r .number) 0 h)
-
--- ---- the tables of a file, by its first refusal of 1 to 8 and its entries
-module _ (f : List ℕ) (earlier : Refusal) (es : List Entry) (t : Told) where
-  pub tabled-refused : t ≡ told f es → (earlier .number ≡ 0 → ⊥) → record { fault = earlier; told = t } ≡ tabled f earlier es
-  unfolding tabled
-  tabled-refused e h = rw (e, ne-eqb (earlier .number) 0 h)
-
-  pub tabled-judged : (r : Refusal) → t ≡ told f es → earlier .number ≡ 0 → r ≡ tableFault f es t
-      → record { fault = r; told = t } ≡ tabled f earlier es
-  unfolding tabled
-  tabled-judged r e h q = rw (q, e, eq-eqb (earlier .number) 0 h)

@@ -1,6 +1,5 @@
 -- What the functions answer, for every input. Code-shaped; proofs/Laws.antt ties it to the definitions. Nothing here has to be believed.
 use Prim.Native.Nat.{ℕ}
-use mathlib.Core.Path.{_≡_}
 use mathlib.Core.List.{List, [], _∷_, _++_}
 use mathlib.Core.Bool.{Bool, false, not, cond, _&&_}
 use lib.Dec.{leb, eqb}
@@ -9,7 +8,6 @@ use Rattle.text.specs.Texts.{same}
 use Rattle.grammar.specs.TokensCode.{namesIn}
 use Rattle.element.specs.ElementCode.{isKind}
 use Rattle.document.specs.EntriesCode.{Entry, numberIn}
-use Rattle.document.specs.DocumentCode.{Index, Indexes}
 use Rattle.tables.specs.declared.rows.Names.{Names}
 use Rattle.tables.specs.declared.rows.Head.{Head}
 use Rattle.tables.specs.declared.rows.Told.{Told}
@@ -56,11 +54,5 @@ orElse a b = cond (eqb (a .number) 0) b a
 unfoldable pub tableFault : List ℕ → List Entry → Told → Refusal
 tableFault f es t = orElse (nameFault f (t .names)) (orElse (busFault (t .head) es) (channelFault (t .head) es))
 
--- the tables of a file, by the first refusal of 1 to 8 and its entries
-unfoldable pub tabled : List ℕ → Refusal → List Entry → Telling
-tabled f fault es = record { fault = orElse fault (tableFault f es (told f es)); told = told f es }
-
-pub record Tabled (f : List ℕ) (r : Telling) : Type 0 where
-  pub index : Index
-  pub indexes : Indexes f index
-  pub same-tables : r ≡ tabled f (index .fault) (index .entries)
+unfoldable pub tabled : List ℕ → List Entry → Telling
+tabled f es = record { fault = tableFault f es (told f es); told = told f es }

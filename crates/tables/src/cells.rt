@@ -1,17 +1,15 @@
 // The words of an entry, by the offset at which it stands.
 //
 // Promises: each answers every words and offset, as crates/document/specs/EntriesCode.antt reads the entry there.
-ghost use Prim.Native.Nat.{_<_, _≤_, _+_, _*_};
+ghost use Prim.Native.Nat.{_≤_, _+_, _*_};
 ghost use mathlib.Core.Path.{_≡_};
-ghost use lib.ListN.{length, getD, drop};
+ghost use lib.ListN.{getD, drop};
 ghost use Rattle.lists.specs.BitsCode.{hasBit};
-ghost use Rattle.document.specs.EntriesCode.{rowSize};
-ghost use Rattle.tables.specs.RowsCode.{entryAt};
+ghost use Rattle.document.specs.EntriesCode.{rowWidth, rowSize};
+ghost use Rattle.tables.specs.RowsCode.{entryAt, nextAt};
+use document::ROW;
 use lists::bits;
 use schema::attributes;
-
-// The set of an entry's attributes in two words, and a number for each.
-const ROW: usize = 27;
 
 // The word j of those from an offset on, or 0.
 fn word_in(words: &[u32], at: usize, j: usize) -> u32
@@ -24,20 +22,20 @@ fn word_in(words: &[u32], at: usize, j: usize) -> u32
     }
 }
 
-pub(crate) fn kind_at(words: &[u32], at: usize) -> usize
+pub fn kind_at(words: &[u32], at: usize) -> usize
     ensures { λ r. ⌜ r ≡ entryAt (now (words .entry)) at .kind ⌝ }
 {
     word_in(words, at, 0) as usize
 }
 
-pub(crate) fn place_at(words: &[u32], at: usize) -> usize
+pub fn place_at(words: &[u32], at: usize) -> usize
     ensures { λ r. ⌜ r ≡ entryAt (now (words .entry)) at .place ⌝ }
 {
     word_in(words, at, 1) as usize
 }
 
 // The number that its text gives.
-pub(crate) fn number_at(words: &[u32], at: usize) -> u32
+pub fn number_at(words: &[u32], at: usize) -> u32
     ensures { λ r. ⌜ r ≡ entryAt (now (words .entry)) at .number ⌝ }
 {
     word_in(words, at, 2)
@@ -59,7 +57,7 @@ fn row_word(words: &[u32], at: usize, j: usize) -> u32
 }
 
 // The number of one of its attributes.
-pub(crate) fn number_in(words: &[u32], at: usize, attribute: usize) -> u32
+pub fn number_in(words: &[u32], at: usize, attribute: usize) -> u32
     ensures { λ r. ⌜ r ≡ getD (entryAt (now (words .entry)) at .row) (attribute + 2) 0 ⌝ }
 {
     if attribute < attributes::ATTRIBUTES {
@@ -77,7 +75,7 @@ fn set_from(low: u32, high: u32) -> u64
 }
 
 // Does it have the attribute?
-pub(crate) fn flag_in(words: &[u32], at: usize, attribute: usize) -> bool
+pub fn flag_in(words: &[u32], at: usize, attribute: usize) -> bool
     ensures { λ r. ⌜ r ≡ hasBit (getD (entryAt (now (words .entry)) at .row) 0 0 + getD (entryAt (now (words .entry)) at .row) 1 0 * 4294967296) attribute ⌝ }
 {
     let low = row_word(words, at, 0);
@@ -87,7 +85,7 @@ pub(crate) fn flag_in(words: &[u32], at: usize, attribute: usize) -> bool
 
 // How many words an entry of the kind has.
 fn size_of(kind: usize) -> usize
-    ensures { λ r. ⌜ (r ≡ rowSize kind + 3) × (r ≤ 30) ⌝ }
+    ensures { λ r. ⌜ (r ≡ rowSize kind + 3) × (r ≤ rowWidth + 3) ⌝ }
 {
     if attributes::is_ruled(kind) {
         ROW + 3
@@ -96,11 +94,14 @@ fn size_of(kind: usize) -> usize
     }
 }
 
-// Where the entry behind it stands.
-pub(crate) fn next(words: &[u32], at: usize) -> usize
-    requires { ⌜ at < length (now words) ⌝ }
-    ensures { λ r. ⌜ r ≡ at + (rowSize (entryAt (now (words .entry)) at .kind) + 3) ⌝ }
+// Where the entry behind it stands; behind the last word there is none.
+pub fn next(words: &[u32], at: usize) -> usize
+    ensures { λ r. ⌜ r ≡ nextAt (now (words .entry)) at ⌝ }
 {
-    let kind = kind_at(words, at);
-    at + size_of(kind)
+    if at < words.len() {
+        let kind = kind_at(words, at);
+        at + size_of(kind)
+    } else {
+        at
+    }
 }

@@ -1,7 +1,7 @@
-// What the known elements of a file say together, or the first of its refusals up to 10.
+// What the known elements of a file say together, and the first of its refusals 9 and 10.
 //
-// cells: the words of an entry. rows: what the entries say, one after the other. The root judges 9 and 10.
-// Promises: `read_tables` answers every file, by value; proofs/Laws.antt, `reads-well`: for a file without faults what is told are the tables that
+// cells: the words of an entry. rows: what an entry says, and what all of them do. The root judges 9 and 10.
+// Promises: `read_tables` answers every file and words, by value; proofs/Laws.antt, `reads-well`: for a file without faults what is told is what
 // crates/file_rules/specs/Tables.antt says, and so is its first fault of 9 and 10.
 // May not touch: expressions, and the words of a plan.
 ghost use mathlib.Core.Path.{_≡_};
@@ -14,11 +14,11 @@ ghost use Rattle.grammar.specs.TokensCode.{spans};
 ghost use Rattle.element.specs.ElementCode.{isKind};
 ghost use Rattle.document.specs.EntriesCode.{entriesIn};
 ghost use Rattle.tables.specs.RowsCode.{entryAt};
-ghost use Rattle.tables.specs.TablesCode.{usedFrom, nameFault, firstWhere, busFault, isBeyond, channelFault, tableFault, Tabled};
+ghost use Rattle.tables.specs.TablesCode.{usedFrom, nameFault, firstWhere, busFault, isBeyond, channelFault, tableFault, tabled};
 ghost use Rattle.file_rules.specs.RefusalCode.{refusedAt};
 ghost use Rattle.lists.specs.Lists.{any};
 
-mod cells;
+pub mod cells;
 pub mod rows;
 
 use crate::rows::Head;
@@ -29,7 +29,7 @@ use schema::attributes;
 use schema::kinds;
 use text::texts;
 
-// What a file says, or its first refusal.
+// What a file says, and its first refusal of 9 and 10.
 pub struct Telling {
     pub fault: Refusal,
     pub told: Told,
@@ -184,18 +184,13 @@ fn table_fault(file: &[u8], words: &[u32], told: Told) -> Refusal
     channel_fault(words, head)
 }
 
-// The tables of a file, or the first of its refusals 1 to 10.
-pub fn read_tables(file: &[u8]) -> Telling
-    ensures { λ r. ⌜ Tabled (now (file .entry)) r ⌝ }
+// What the entries of a file say together, and the first of its refusals 9 and 10.
+pub fn read_tables(file: &[u8], words: &[u32]) -> Telling
+    ensures { λ r. ⌜ r ≡ tabled (now (file .entry)) (entriesIn (now (words .entry))) ⌝ }
 {
-    let mut words = [0; 3498];
-    let found = document::read_index(file, &mut words);
-    let end = found.end;
-    let told = rows::tell(file, &words[..end]);
-    let first = found.fault;
-    if first.number != 0 {
-        return Telling { fault: first, told };
-    }
-    let fault = table_fault(file, &words[..end], told);
+    let head = rows::tell_head(words);
+    let names = rows::tell_names(file, words);
+    let told = Told { head, names };
+    let fault = table_fault(file, words, told);
     Telling { fault, told }
 }

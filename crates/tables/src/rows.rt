@@ -1,46 +1,31 @@
-// What the known elements of a file say, one after the other: triggers with their names, filters, statements, channels.
+// What the known elements of a file say: the triggers' names, channels, log_all; and one entry, with those behind it.
 //
-// Promises: `tell` answers any file and entries, by value, as specs/RowsCode.antt gives it.
+// Promises: each answers any file, words and offset, by value, as specs/RowsCode.antt gives it.
 ghost use Prim.Native.Nat.{_<_, _≤_, _+_, _^_};
 ghost use mathlib.Core.Path.{_≡_};
 ghost use mathlib.Core.Bool.{cond};
 ghost use lib.Dec.{ltb};
+ghost use lib.ListN.{length, drop};
 ghost use Rattle.text.specs.Texts.{bytes};
 ghost use Rattle.records.specs.Records.{dlcTop};
-ghost use Rattle.element.specs.ElementCode.{valueAt};
+ghost use Rattle.element.specs.ElementCode.{isKind, valueAt};
 ghost use Rattle.document.specs.EntriesCode.{entriesIn};
-ghost use Rattle.tables.specs.RowsCode.{folded, entryAt, causeFrom, triggerFrom, effectOf, filterFrom, noTriggers, tellTrigger, noNames, tellName, noFilters, withChannel, tellFilter, emptyDraft, noDrafts, pushAction, actionFrom, withPart, isPart, tellDraft, noHead, tellHead, told};
+ghost use Rattle.tables.specs.RowsCode.{folded, entryAt, front, isChannel, isInner, maskOf, textOf, counted, causeFrom, triggerFrom, effectOf, filterFrom, noNames, tellName, withChannel, actionFrom, noHead, tellHead};
 use crate::cells;
 use element::fields;
 use records::Cause;
 use records::Effect;
 use records::Filter;
-use records::Timeout;
 use records::Trigger;
 use schema::attributes;
 use schema::kinds;
 use walk::Part;
-use writer::Actions;
-use writer::Filters;
-use writer::Triggers;
 
 // Where the triggers' names stand in the file, and the triggers.
 pub struct Names {
     pub starts: [usize; 32],
     pub ends: [usize; 32],
     pub places: [usize; 32],
-    pub count: usize,
-}
-
-// A statement whose expression is not compiled yet: where its EXPRESSION stands.
-pub struct Draft {
-    pub post: u32,
-    pub actions: Actions,
-    pub text: usize,
-}
-
-pub struct Drafts {
-    pub rows: [Draft; 16],
     pub count: usize,
 }
 
@@ -53,23 +38,7 @@ pub struct Head {
 
 pub struct Told {
     pub head: Head,
-    pub triggers: Triggers,
     pub names: Names,
-    pub filters: Filters,
-    pub drafts: Drafts,
-}
-
-fn no_triggers() -> Triggers
-    ensures { λ r. ⌜ r ≡ noTriggers ⌝ }
-{
-    let none = Trigger {
-        cause: Cause::Startup,
-        timeout: Timeout::Forever,
-    };
-    Triggers {
-        rows: [none; 32],
-        count: 0,
-    }
 }
 
 fn cause_from(words: &[u32], at: usize) -> Cause
@@ -104,7 +73,7 @@ fn cause_from(words: &[u32], at: usize) -> Cause
 }
 
 // The trigger that an entry says.
-fn trigger_from(words: &[u32], at: usize) -> Trigger
+pub fn trigger_from(words: &[u32], at: usize) -> Trigger
     ensures { λ r. ⌜ r ≡ triggerFrom (entryAt (now (words .entry)) at) ⌝ }
 {
     let word = cells::number_in(words, at, attributes::TIMEOUT);
@@ -113,33 +82,13 @@ fn trigger_from(words: &[u32], at: usize) -> Trigger
     Trigger { cause, timeout }
 }
 
-fn tell_triggers(words: &[u32]) -> Triggers
-    ensures { λ r. ⌜ r ≡ folded tellTrigger noTriggers (entriesIn (now (words .entry))) ⌝ }
-{
-    let mut t = no_triggers();
-    let mut at = 0;
-    while at < words.len() {
-        let here = at;
-        let kind = cells::kind_at(words, here);
-        at = cells::next(words, here);
-        if kinds::is_in(kinds::TRIGGERS, kind) {
-            let next = t.count;
-            if next < 32 {
-                t.rows[next] = trigger_from(words, here);
-                t.count = next + 1;
-            }
-        }
-    }
-    t
-}
-
 fn name_at(file: &[u8], place: usize) -> Part
     ensures { λ r. ⌜ r ≡ valueAt (bytes "name") (now (file .entry)) place ⌝ }
 {
     fields::value_at(file, place, b"name")
 }
 
-fn tell_names(file: &[u8], words: &[u32]) -> Names
+pub(crate) fn tell_names(file: &[u8], words: &[u32]) -> Names
     ensures { λ r. ⌜ r ≡ folded (tellName (now (file .entry))) noNames (entriesIn (now (words .entry))) ⌝ }
 {
     let mut t = Names {
@@ -168,24 +117,6 @@ fn tell_names(file: &[u8], words: &[u32]) -> Names
     t
 }
 
-fn no_filters() -> Filters
-    ensures { λ r. ⌜ r ≡ noFilters ⌝ }
-{
-    let none = Filter {
-        effect: Effect::Pass,
-        mask: 0,
-        ext: false,
-        lower: 0,
-        upper: 0,
-        shortest: 0,
-        longest: 0,
-    };
-    Filters {
-        rows: [none; 32],
-        count: 0,
-    }
-}
-
 fn effect_of(kind: usize) -> Effect
     ensures { λ r. ⌜ r ≡ effectOf kind ⌝ }
 {
@@ -201,9 +132,9 @@ fn longest_from(given: bool, dlc: u32) -> u32
     if given { dlc } else { records::DLC_TOP }
 }
 
-// The filter that an entry says, without channels.
-fn filter_from(words: &[u32], at: usize) -> Filter
-    ensures { λ r. ⌜ r ≡ filterFrom 0 (entryAt (now (words .entry)) at) ⌝ }
+// The filter that an entry says, with these channels.
+pub fn filter_from(words: &[u32], at: usize, mask: u32) -> Filter
+    ensures { λ r. ⌜ r ≡ filterFrom mask (entryAt (now (words .entry)) at) ⌝ }
 {
     let effect = effect_of(cells::kind_at(words, at));
     let wide = cells::number_in(words, at, attributes::CAN_EXT);
@@ -215,7 +146,7 @@ fn filter_from(words: &[u32], at: usize) -> Filter
     let longest = longest_from(given, dlc);
     Filter {
         effect,
-        mask: 0,
+        mask,
         ext: wide == 1,
         lower,
         upper,
@@ -255,75 +186,64 @@ fn with_channel(mask: u32, channel: u32) -> u32
     mask + bit
 }
 
-// A CHANNEL belongs to the filter before it.
-fn tell_filters(words: &[u32]) -> Filters
-    ensures { λ r. ⌜ r ≡ folded tellFilter noFilters (entriesIn (now (words .entry))) ⌝ }
+// The channels of the CHANNELs that stand next, from an offset on.
+pub fn mask_from(words: &[u32], at: usize) -> u32
+    ensures { λ r. ⌜ r ≡ maskOf (front isChannel (entriesIn (drop at (now (words .entry))))) ⌝ }
 {
-    let mut t = no_filters();
-    let mut at = 0;
-    while at < words.len() {
-        let here = at;
+    let mut mask = 0;
+    let mut here = at;
+    while here < words.len() {
         let kind = cells::kind_at(words, here);
-        at = cells::next(words, here);
-        if kinds::is_in(kinds::FILTERS, kind) {
-            let next = t.count;
-            if next < 32 {
-                t.rows[next] = filter_from(words, here);
-                t.count = next + 1;
-            }
-        } else if kinds::is_same(kind, kinds::CHANNEL) {
-            let count = t.count;
-            if (1 <= count) & (count <= 32) {
-                let last = count - 1;
-                let channel = cells::number_at(words, here);
-                let mut x = t.rows[last];
-                x.mask = with_channel(x.mask, channel);
-                t.rows[last] = x;
-            }
+        if !kinds::is_same(kind, kinds::CHANNEL) {
+            return mask;
         }
+        let channel = cells::number_at(words, here);
+        mask = with_channel(mask, channel);
+        here = cells::next(words, here);
     }
-    t
+    mask
 }
 
-fn empty_draft(post: u32) -> Draft
-    ensures { λ r. ⌜ r ≡ emptyDraft post ⌝ }
+// Does an element of the kind stand in a STATEMENT, or in its ACTIONS?
+pub fn is_inner(kind: usize) -> bool
+    ensures { λ r. ⌜ r ≡ isInner kind ⌝ }
 {
-    let actions = Actions {
-        words: [0; 6],
-        count: 0,
-    };
-    Draft {
-        post,
-        actions,
-        text: 0,
+    if kinds::is_in(kinds::STATEMENT, kind) {
+        return true;
+    }
+    kinds::is_in(kinds::ACTIONS, kind)
+}
+
+fn text_after(place: usize, kind: usize, here: usize) -> usize
+    ensures { λ r. ⌜ r ≡ cond (isKind kind "EXPRESSION") here place ⌝ }
+{
+    if kinds::is_same(kind, kinds::EXPRESSION) {
+        here
+    } else {
+        place
     }
 }
 
-fn no_drafts() -> Drafts
-    ensures { λ r. ⌜ r ≡ noDrafts ⌝ }
+// Where the EXPRESSION of a statement stands; its elements are next, from an offset on.
+pub fn text_from(words: &[u32], at: usize) -> usize
+    ensures { λ r. ⌜ r ≡ textOf (front isInner (entriesIn (drop at (now (words .entry))))) ⌝ }
 {
-    let none = empty_draft(0);
-    Drafts {
-        rows: [none; 16],
-        count: 0,
+    let mut text = 0;
+    let mut here = at;
+    while here < words.len() {
+        let kind = cells::kind_at(words, here);
+        if !is_inner(kind) {
+            return text;
+        }
+        let place = cells::place_at(words, here);
+        text = text_after(text, kind, place);
+        here = cells::next(words, here);
     }
-}
-
-fn push_action(a: Actions, w: u32) -> Actions
-    ensures { λ r. ⌜ r ≡ pushAction a w ⌝ }
-{
-    let n = a.count;
-    if n < 6 {
-        let mut all = a;
-        all.words[n] = w;
-        all.count = n + 1;
-        return all;
-    }
-    a
+    text
 }
 
 // The word of an action.
-fn action_from(kind: usize) -> u32
+pub fn action_from(kind: usize) -> u32
     ensures { λ r. ⌜ r ≡ actionFrom kind ⌝ }
 {
     if kinds::is_same(kind, kinds::ACTION_START_LOG) {
@@ -335,66 +255,6 @@ fn action_from(kind: usize) -> u32
     3
 }
 
-// EXPRESSION and actions belong to the STATEMENT before them.
-fn with_part(d: Draft, kind: usize, place: usize) -> Draft
-    ensures { λ r. ⌜ r ≡ withPart kind place d ⌝ }
-{
-    let before = d.actions;
-    if kinds::is_same(kind, kinds::EXPRESSION) {
-        return Draft {
-            post: d.post,
-            actions: before,
-            text: place,
-        };
-    }
-    let word = action_from(kind);
-    let actions = push_action(before, word);
-    Draft {
-        post: d.post,
-        actions,
-        text: d.text,
-    }
-}
-
-// Is it one of these?
-fn is_part(kind: usize) -> bool
-    ensures { λ r. ⌜ r ≡ isPart kind ⌝ }
-{
-    if kinds::is_same(kind, kinds::EXPRESSION) {
-        return true;
-    }
-    kinds::is_in(kinds::ACTIONS, kind)
-}
-
-fn tell_drafts(words: &[u32]) -> Drafts
-    ensures { λ r. ⌜ r ≡ folded tellDraft noDrafts (entriesIn (now (words .entry))) ⌝ }
-{
-    let mut t = no_drafts();
-    let mut at = 0;
-    while at < words.len() {
-        let here = at;
-        let kind = cells::kind_at(words, here);
-        at = cells::next(words, here);
-        if kinds::is_same(kind, kinds::STATEMENT) {
-            let next = t.count;
-            if next < 16 {
-                let post = cells::number_in(words, here, attributes::POSTTRIGGER);
-                t.rows[next] = empty_draft(post);
-                t.count = next + 1;
-            }
-        } else if is_part(kind) {
-            let count = t.count;
-            if (1 <= count) & (count <= 16) {
-                let last = count - 1;
-                let d = t.rows[last];
-                let place = cells::place_at(words, here);
-                t.rows[last] = with_part(d, kind, place);
-            }
-        }
-    }
-    t
-}
-
 // Beyond every limit the count stands still.
 fn one_more(channels: u32) -> u32
     ensures { λ r. ⌜ r ≡ cond (ltb channels 5) (channels + 1) channels ⌝ }
@@ -402,7 +262,7 @@ fn one_more(channels: u32) -> u32
     if channels < 5 { channels + 1 } else { channels }
 }
 
-fn tell_head(words: &[u32]) -> Head
+pub(crate) fn tell_head(words: &[u32]) -> Head
     ensures { λ r. ⌜ r ≡ folded tellHead noHead (entriesIn (now (words .entry))) ⌝ }
 {
     let mut h = Head {
@@ -429,20 +289,18 @@ fn tell_head(words: &[u32]) -> Head
     h
 }
 
-// What the entries say, in their order.
-pub(crate) fn tell(file: &[u8], words: &[u32]) -> Told
-    ensures { λ r. ⌜ r ≡ told (now (file .entry)) (entriesIn (now (words .entry))) ⌝ }
+// How many entries are of kinds that stand in `parent`.
+pub fn count_in(words: &[u32], parent: usize) -> usize
+    ensures { λ r. ⌜ (r ≡ counted parent (entriesIn (now (words .entry)))) × (r ≤ length (now (words .entry))) ⌝ }
 {
-    let head = tell_head(words);
-    let triggers = tell_triggers(words);
-    let names = tell_names(file, words);
-    let filters = tell_filters(words);
-    let drafts = tell_drafts(words);
-    Told {
-        head,
-        triggers,
-        names,
-        filters,
-        drafts,
+    let mut n = 0;
+    let mut at = 0;
+    while at < words.len() {
+        let kind = cells::kind_at(words, at);
+        at = cells::next(words, at);
+        if kinds::is_in(parent, kind) {
+            n += 1;
+        }
     }
+    n
 }

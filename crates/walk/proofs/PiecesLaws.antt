@@ -10,7 +10,7 @@ use lib.ListN.{length, take, drop}
 use lib.Seq.{slice, length-slice, take-all, take-nil}
 use Rattle.walk.specs.declared.Item.{Item}
 use Rattle.walk.specs.declared.Body.{Body}
-use Rattle.walk.specs.WalkCode.{itemAt, contentAt, walkItems, texting, innerStart, textAt}
+use Rattle.walk.specs.WalkCode.{itemAt, contentAt, walkItems, texting, innerStart, textIn, textAt}
 use Rattle.walk.proofs.Bounds.{item-from}
 use Rattle.walk.proofs.Turns.{walk-text, walk-close, walk-over}
 use Rattle.shape.proofs.Slices.{slice-part, slice-none}
@@ -62,7 +62,7 @@ item-says f o (Item.Close k) q =
     none-says f o (walkItems (texting f) f (suc (length f)) o) (omega (arith, b .0, b .1)) (walk-close (texting f) f o (length f) k q)
 item-says f o Item.Broken q = tt
 
-body-says : (f : List ℕ) (b : Body) → Says f (walkItems (texting f) f (suc (length f)) (innerStart f b)) (bodyText f b)
+body-says : (f : List ℕ) (b : Body) → Says f (textIn f b) (bodyText f b)
 unfolding bodyText innerStart
 body-says f (Body.Open o) = item-says f o (itemAt f o) refl
 body-says f (Body.Empty e) =
@@ -70,18 +70,24 @@ body-says f (Body.Empty e) =
     (walk-over (texting f) f (length f) (omega arith) (suc (length f)))
 body-says f Body.Broken = tt
 
-single-says : (f : List ℕ) (i : ℕ) → Says f (textAt f i) (singleText f i)
-unfolding singleText textAt
-single-says f i = body-says f (contentAt f i)
+-- a part that was answered, of any content
+module _ (f : List ℕ) (c : Body) (a b : ℕ) (e : bodyText f c ≡ Single.Part a b) where
+  says : Says f (textIn f c) (Single.Part a b)
+  says = subst (Says f (textIn f c)) e (body-says f c)
 
--- a part that was answered, for any i, also behind the end of the file
-module _ (f : List ℕ) (i a b : ℕ) (e : singleText f i ≡ Single.Part a b) where
-  says : Says f (textAt f i) (Single.Part a b)
-  says = subst (Says f (textAt f i)) e (single-says f i)
-
-  pub single-bounds : (a ≤ b) × (b ≤ length f)
-  single-bounds = (says .0, says .1)
+  pub body-bounds : (a ≤ b) × (b ≤ length f)
+  body-bounds = (says .0, says .1)
 
   -- the part that code takes by `[a..b]`
+  pub body-part : take (b - a) (drop a f) ≡ take 32768 (textIn f c)
+  body-part = slice-part f a b (says .0) (says .1) ∙ says .2
+
+-- the same, for any i, also behind the end of the file
+module _ (f : List ℕ) (i a b : ℕ) (e : singleText f i ≡ Single.Part a b) where
+  pub single-bounds : (a ≤ b) × (b ≤ length f)
+  unfolding singleText
+  single-bounds = body-bounds f (contentAt f i) a b e
+
   pub single-part : take (b - a) (drop a f) ≡ take 32768 (textAt f i)
-  single-part = slice-part f a b (says .0) (says .1) ∙ says .2
+  unfolding singleText textAt
+  single-part = body-part f (contentAt f i) a b e

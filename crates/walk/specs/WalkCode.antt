@@ -78,8 +78,12 @@ contentFrom f (suc n) j =
       | TagPart.Broken ↦ Body.Broken
     ]
 
+-- what stands behind the start tag whose name ends at j, and behind that of the element at i
+abbrev pub contentBehind : List ℕ → ℕ → Body
+contentBehind f j = contentFrom f (suc (length f)) j
+
 unfoldable pub contentAt : List ℕ → ℕ → Body
-contentAt f i = contentFrom f (suc (length f)) (nameAt f i .to)
+contentAt f i = contentBehind f (nameAt f i .to)
 
 -- a walk over the items of an element: what a run of text from one offset to another adds, where a child ends, what the end tag gives, and
 -- what a fault
@@ -146,9 +150,15 @@ innerStart f (Body.Open o) = o
 innerStart f (Body.Empty e) = length f
 innerStart f Body.Broken = length f
 
--- the text directly in the element at i
+-- the text directly in an element whose content starts at j, in one with that content, and in the element at i
+abbrev pub textFrom : List ℕ → ℕ → List ℕ
+textFrom f j = walkItems (texting f) f (suc (length f)) j
+
+abbrev pub textIn : List ℕ → Body → List ℕ
+textIn f b = textFrom f (innerStart f b)
+
 unfoldable pub textAt : List ℕ → ℕ → List ℕ
-textAt f i = walkItems (texting f) f (suc (length f)) (innerStart f (contentAt f i))
+textAt f i = textIn f (contentAt f i)
 
 -- is a byte of the text no blank
 unfoldable pub stray : List ℕ → Bool

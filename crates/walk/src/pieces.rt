@@ -1,9 +1,9 @@
 // The text of an element where it stands: nearly always it is one run of bytes of the file, and no buffer is needed to join it.
 //
-// Promises: `single_text` is the function of the bytes that specs/PiecesCode.antt gives, for every input; proofs/PiecesLaws.antt says that a part that
-// it answers lies in the file and is the element's text, as much of it as fits a buffer of 32,768 bytes.
+// Promises: every answer is the function of the bytes that specs/PiecesCode.antt gives, for every input; proofs/PiecesLaws.antt says that a part that
+// is answered lies in the file and is the element's text, as much of it as fits a buffer of 32,768 bytes.
 ghost use mathlib.Core.Path.{_≡_};
-ghost use Rattle.walk.specs.PiecesCode.{isClose, itemText, singleText};
+ghost use Rattle.walk.specs.PiecesCode.{isClose, itemText, bodyText, singleText};
 ghost use Rattle.walk.specs.WalkCode.{itemAt};
 use crate::Body;
 use crate::Item;
@@ -53,13 +53,21 @@ fn content_text(file: &[u8], o: usize) -> Single
     }
 }
 
-// The text of the element at i.
-pub fn single_text(file: &[u8], i: usize) -> Single
-    ensures { λ r. ⌜ r ≡ singleText (now (file .entry)) i ⌝ }
+// The text of an element.
+pub fn text_in(file: &[u8], body: Body) -> Single
+    ensures { λ r. ⌜ r ≡ bodyText (now (file .entry)) body ⌝ }
 {
-    match tags::content_at(file, i) {
+    match body {
         Body::Open(o) => content_text(file, o),
         Body::Empty(_) => Single::Part(0, 0),
         Body::Broken => Single::Pieces,
     }
+}
+
+// The text of the element at i.
+pub fn single_text(file: &[u8], i: usize) -> Single
+    ensures { λ r. ⌜ r ≡ singleText (now (file .entry)) i ⌝ }
+{
+    let body = tags::content_at(file, i);
+    text_in(file, body)
 }

@@ -1,8 +1,8 @@
 // The text of an element, joined in a lent buffer; whether it has any.
 //
-// Promises: `gather_text` and `has_text` are the functions of the bytes that specs/WalkCode.antt gives, for every input.
+// Promises: every answer is the function of the bytes that specs/WalkCode.antt gives, for every input.
 ghost use mathlib.Core.Path.{_≡_};
-ghost use Rattle.walk.specs.WalkCode.{contentAt, innerStart, textAt, stray, LaidDown};
+ghost use Rattle.walk.specs.WalkCode.{innerStart, textFrom, textAt, stray, LaidDown};
 use crate::Body;
 use crate::Item;
 use crate::elements;
@@ -10,11 +10,11 @@ use crate::items;
 use crate::tags;
 use text::runs;
 
-// Where the content of the element at i starts; the end of the file if it has none.
-fn inner_start(file: &[u8], i: usize) -> usize
-    ensures { λ r. ⌜ r ≡ innerStart (now (file .entry)) (contentAt (now (file .entry)) i) ⌝ }
+// Where an element's content starts; the end of the file if it has none.
+pub fn inner_start(file: &[u8], body: Body) -> usize
+    ensures { λ r. ⌜ r ≡ innerStart (now (file .entry)) body ⌝ }
 {
-    match tags::content_at(file, i) {
+    match body {
         Body::Open(o) => o,
         Body::Empty(_) => file.len(),
         Body::Broken => file.len(),
@@ -36,11 +36,11 @@ fn lay(text: &[u8], out: &mut [u8]) -> usize
     n
 }
 
-// The joined text of the element at i, at the front of the scratch buffer, as much as fits; how much that is.
-pub fn gather_text(file: &[u8], i: usize, scratch: &mut [u8]) -> usize
-    ensures { λ r. ⌜ LaidDown (textAt (now (file .entry)) i) (now (scratch .entry)) r (now (scratch .exit)) ⌝ }
+// The joined text of an element whose content starts at o, at the front of the scratch buffer, as much as fits; how much that is.
+pub fn gather_from(file: &[u8], o: usize, scratch: &mut [u8]) -> usize
+    ensures { λ r. ⌜ LaidDown (textFrom (now (file .entry)) o) (now (scratch .entry)) r (now (scratch .exit)) ⌝ }
 {
-    let mut j = inner_start(file, i);
+    let mut j = o;
     let mut n = 0;
     while j < file.len() {
         match items::item_at(file, j) {
@@ -65,11 +65,20 @@ pub fn gather_text(file: &[u8], i: usize, scratch: &mut [u8]) -> usize
     n
 }
 
-// Has the element at i a byte of text that is no blank?
-pub fn has_text(file: &[u8], i: usize) -> bool
-    ensures { λ r. ⌜ r ≡ stray (textAt (now (file .entry)) i) ⌝ }
+// The same of the element at i.
+pub fn gather_text(file: &[u8], i: usize, scratch: &mut [u8]) -> usize
+    ensures { λ r. ⌜ LaidDown (textAt (now (file .entry)) i) (now (scratch .entry)) r (now (scratch .exit)) ⌝ }
 {
-    let mut j = inner_start(file, i);
+    let body = tags::content_at(file, i);
+    let o = inner_start(file, body);
+    gather_from(file, o, scratch)
+}
+
+// Has an element whose content starts at o a byte of text that is no blank?
+pub fn has_text(file: &[u8], o: usize) -> bool
+    ensures { λ r. ⌜ r ≡ stray (textFrom (now (file .entry)) o) ⌝ }
+{
+    let mut j = o;
     while j < file.len() {
         match items::item_at(file, j) {
             Item::Text(k) => {

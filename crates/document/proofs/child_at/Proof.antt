@@ -27,7 +27,8 @@ kind-under-requires c κs = search needs
 
 returns : tie.Need-returns
 unfolding childAt
-returns c = let h = name-bounds (c .before .before .before .before .args .file .now) (c .before .before .before .before .args .j) in c .kind-under .ensures ∙ rw (c .before .before .name-of .ensures) (ap (kindUnder (c .before .before .before .before .args .parent)) (slice-part (c .before .before .before .before .args .file .now) _ _ (h .0) (h .1)))
+returns c = let h = name-bounds (c .before .before .before .before .args .file .now) (c .before .before .before .before .args .j) in
+    (c .kind-under .ensures ∙ rw (c .before .before .name-of .ensures) (ap (kindUnder (c .before .before .before .before .args .parent)) (slice-part (c .before .before .before .before .args .file .now) _ _ (h .0) (h .1))), rw (c .before .before .name-of .ensures))
 
 pub child-at-spec : {M : Type 1} → statement M
 child-at-spec =

@@ -7,6 +7,7 @@ use mathlib.Core.Path.{_≡_, sym, _∙_}
 use native.Mathlib.Omega.{arith}
 use mathlib.Core.List.{[], _∷_}
 use lib.ListN.{length}
+use Rattle.schema.specs.SchemaCode.{attributeCount}
 use Rattle.document.proofs.Entries.{enters, enters-none, put-ends, ruled-put, bare-put, row-long}
 
 returns : tie.Need-returns
@@ -26,14 +27,14 @@ same-length : tie.Need-same-length
 same-length c = c .before .before .put-row .ensures .long ∙ c .before .before .before .before .before .before .before .before .put-head .ensures .long
 
 returns-2 : tie.Need-returns-2
-returns-2 c = let l : length (c .before .before .before .before .before .before .before .before .before .before .before .before .args .g .values) ≡ 25 = search needs in
+returns-2 c = let l : length (c .before .before .before .before .before .before .before .before .before .before .before .before .args .g .values) ≡ attributeCount = search needs in
     enters (c .before .before .before .before .before .before .before .before .before .before .before .before .args .walk) (c .before .before .before .before .before .before .before .before .before .before .before .before .args .words .now) (c .before .before .before .before .before .before .before .before .before .before .before .before .pre .3) _ _ _ (row-long (c .before .before .before .before .before .before .before .before .before .before .before .before .args .kind) (c .before .before .before .before .before .before .before .before .before .before .before .before .args .walk .at) (c .before .before .before .before .before .before .before .before .before .before .before .before .args .number) (c .before .before .before .before .before .before .before .before .before .before .before .before .args .g) l) (c .before .before .before .before .before .before .before .before .before .before .if1 .left) (ruled-put (c .before .before .before .before .before .before .before .before .before .before .before .before .args .words .now) _ (c .before .before .before .before .before .before .before .before .before .before .before .before .args .walk .end) (c .before .before .before .before .before .before .before .before .before .before .before .before .args .kind) (c .before .before .before .before .before .before .before .before .before .before .before .before .args .walk .at) (c .before .before .before .before .before .before .before .before .before .before .before .before .args .number) _ (c .before .before .before .before .before .before .before .before .before .before .before .before .args .g) (c .before .before .before .before .before .before .before .before .put-head .ensures) (sym (c .before .before .before .before .before .is-ruled .ensures) ∙ c .before .before .before .before .if2 .taken) _ _ (c .before .before .put-row .ensures))
 
 same-length-2 : tie.Need-same-length-2
 same-length-2 c = c .before .before .before .before .put-head .ensures .long
 
 returns-3 : tie.Need-returns-3
-returns-3 c = let l : length (c .before .before .before .before .before .before .before .before .args .g .values) ≡ 25 = search needs in
+returns-3 c = let l : length (c .before .before .before .before .before .before .before .before .args .g .values) ≡ attributeCount = search needs in
     enters (c .before .before .before .before .before .before .before .before .args .walk) (c .before .before .before .before .before .before .before .before .args .words .now) (c .before .before .before .before .before .before .before .before .pre .3) _ _ _ (row-long (c .before .before .before .before .before .before .before .before .args .kind) (c .before .before .before .before .before .before .before .before .args .walk .at) (c .before .before .before .before .before .before .before .before .args .number) (c .before .before .before .before .before .before .before .before .args .g) l) (c .before .before .before .before .before .before .if1 .left) (bare-put (c .before .before .before .before .before .before .before .before .args .words .now) _ (c .before .before .before .before .before .before .before .before .args .walk .end) (c .before .before .before .before .before .before .before .before .args .kind) (c .before .before .before .before .before .before .before .before .args .walk .at) (c .before .before .before .before .before .before .before .before .args .number) _ (c .before .before .before .before .before .before .before .before .args .g) (c .before .before .before .before .put-head .ensures) (sym (c .before .is-ruled .ensures) ∙ c .if2 .left))
 
 pub enter-spec : {M : Type 1} → statement M

@@ -4,7 +4,6 @@ use borrow.Author.Needs.{needs}
 use Rattle.document.proofs.mark.Statement.{statement}
 use Rattle.document.proofs.mark.Tie as tie
 use mathlib.Core.Path.{sym, _∙_}
-use mathlib.Core.Bool.{_||_}
 use native.Mathlib.Omega.{arith}
 use borrow.Author.Tests.{lt-ltb}
 use Rattle.document.specs.DocumentCode.{marked}

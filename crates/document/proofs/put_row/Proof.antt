@@ -4,7 +4,6 @@ use borrow.Author.Needs.{needs}
 use Rattle.document.proofs.put_row.Statement.{statement}
 use Rattle.document.proofs.put_row.Tie as tie
 use native.Mathlib.Omega.{arith}
-use mathlib.Core.List.{_++_, append-assoc}
 use lib.ListN.{length-set}
 use Rattle.document.proofs.Entries.{row-put}
 

@@ -8,14 +8,15 @@ use mathlib.Core.List.{_++_}
 use native.Mathlib.Omega.{arith}
 use borrow.Author.Needs.{needs}
 use lib.ListN.{length, take}
+use Rattle.schema.specs.SchemaCode.{attributeCount}
 use Rattle.lists.specs.FillsCode.{Filled}
 use Rattle.document.proofs.Entries.{values-none, values-more, values-all}
 
 abbrev Inv-loop : tie.InvT-loop
-Inv-loop at words₀ values a₀ words a = Filled (take at words₀ ++ take a values) words₀ words (at + a) × (a ≤ 25)
+Inv-loop at words₀ values a₀ words a = Filled (take at words₀ ++ take a values) words₀ words (at + a) × (a ≤ attributeCount)
 
 abbrev μ-loop : tie.MeasureT-loop
-μ-loop at words₀ values a₀ words a = 25 - a
+μ-loop at words₀ values a₀ words a = attributeCount - a
 
 loop-holds : tie.Need-loop-holds Inv-loop μ-loop
 loop-holds c = (values-none (c .args .t1) (c .args .words .now) (c .args .at) (omega (arith, c .pre)), omega arith)
@@ -42,7 +43,7 @@ loop-less : tie.Need-loop-less Inv-loop μ-loop
 loop-less c = search needs
 
 loop-again : tie.Need-loop-again Inv-loop μ-loop
-loop-again c = let l : length (c .before .before .args .t1) ≡ 25 = search needs in
+loop-again c = let l : length (c .before .before .args .t1) ≡ attributeCount = search needs in
     (values-more (c .before .before .args .t1) (c .before .before .args .words .now) _ (c .before .before .args .at) (c .before .loop .a) (c .before .loop .inv .0) (omega (arith, l, c .loop-test .taken)) (omega (arith, c .before .before .pre, c .loop-test .taken)), omega arith)
 
 add-result : tie.Need-add-result Inv-loop μ-loop
@@ -52,7 +53,7 @@ same-length : tie.Need-same-length Inv-loop μ-loop
 same-length c = c .before .loop .inv .0 .long
 
 returns : tie.Need-returns Inv-loop μ-loop
-returns c = let l : length (c .before .before .args .t1) ≡ 25 = search needs in
+returns c = let l : length (c .before .before .args .t1) ≡ attributeCount = search needs in
     values-all (c .before .before .args .t1) (c .before .before .args .words .now) _ (c .before .before .args .at) (c .before .loop .a) (c .before .loop .inv .0) (omega (arith, l, c .loop-test .left))
 
 pub put-values-spec : {M : Type 1} → statement M

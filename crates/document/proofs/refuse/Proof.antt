@@ -3,7 +3,6 @@
 use Rattle.document.proofs.refuse.Statement.{statement}
 use Rattle.document.proofs.refuse.Tie as tie
 use mathlib.Core.Path.{refl}
-use Rattle.document.specs.DocumentCode.{Holds}
 use Rattle.lists.specs.Lists.{gathered, Every}
 
 returns : tie.Need-returns

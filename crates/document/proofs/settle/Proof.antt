@@ -3,9 +3,8 @@
 use borrow.Author.Needs.{needs}
 use Rattle.document.proofs.settle.Statement.{statement}
 use Rattle.document.proofs.settle.Tie as tie
-use mathlib.Core.Path.{_≡_, refl, sym, ap, _∙_}
-use Rattle.document.specs.EntriesCode.{Entry, written}
-use Rattle.document.specs.DocumentCode.{indexAt, found, Holds}
+use mathlib.Core.Path.{refl}
+use Rattle.document.specs.DocumentCode.{indexAt, found}
 use Rattle.document.proofs.Entries.{sound-entries}
 
 refuse-requires : tie.Need-refuse-requires

@@ -3,7 +3,7 @@
 use borrow.Author.Needs.{needs}
 use Rattle.tables.proofs.bus_fault.Statement.{statement}
 use Rattle.tables.proofs.bus_fault.Tie as tie
-use mathlib.Core.Path.{refl, sym, _∙_}
+use mathlib.Core.Path.{sym, _∙_}
 use Rattle.tables.specs.TablesCode.{busFault}
 
 cast-n : tie.Need-cast-n

@@ -30,7 +30,7 @@ unfolding channelFault
 returns c = looking-hit (isBeyond (c .before .before .before .before .before .before .args .head .channels)) (c .before .before .before .before .before .before .args .words .now) _ (c .before .before .before .before .loop .inv) _ (c .before .before .is-beyond .ensures) _ (c .before .before .before .loop-test .taken) (c .before .if1 .taken) (c .place-at .ensures)
 
 next-requires : tie.Need-next-requires Inv-loop μ-loop
-next-requires c κs = c .before .before .loop-test .taken
+next-requires c κs = search needs
 
 loop-less : tie.Need-loop-less Inv-loop μ-loop
 loop-less c = less (c .before .before .before .before .before .before .args .words .now) _ _ (c .before .before .before .loop-test .taken) (c .next .ensures)

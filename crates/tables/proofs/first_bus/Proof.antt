@@ -35,7 +35,7 @@ unfolding names nameIn bytes
 returns c = looking-hit (λ e. isKind (e .kind) "CAN_BUS") (c .before .before .before .before .before .before .before .args .words .now) _ (c .before .before .before .before .before .loop .inv) _ (c .before .before .is-same .ensures ∙ ap (λ (k : ℕ). isKind k "CAN_BUS") (c .before .before .before .kind-at .ensures)) _ (c .before .before .before .before .loop-test .taken) (c .before .if1 .taken) (c .place-at .ensures)
 
 next-requires : tie.Need-next-requires Inv-loop μ-loop
-next-requires c κs = c .before .before .before .loop-test .taken
+next-requires c κs = search needs
 
 loop-less : tie.Need-loop-less Inv-loop μ-loop
 loop-less c = less (c .before .before .before .before .before .before .before .args .words .now) _ _ (c .before .before .before .before .loop-test .taken) (c .next .ensures)

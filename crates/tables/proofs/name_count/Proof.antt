@@ -5,7 +5,7 @@ use Rattle.tables.proofs.name_count.Statement.{statement}
 use Rattle.tables.proofs.name_count.Tie as tie
 use mathlib.Core.Path.{_≡_}
 use lib.ListN.{length}
-use Rattle.writer.proofs.Sizes.{clamped}
+use Rattle.tables.proofs.Turns.{clamped}
 
 least-requires : tie.Need-least-requires
 least-requires c κs = search needs

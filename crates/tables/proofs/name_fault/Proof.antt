@@ -4,7 +4,7 @@ use borrow.Author.Needs.{needs}
 use Rattle.tables.proofs.name_fault.Statement.{statement}
 use Rattle.tables.proofs.name_fault.Tie as tie
 use mathlib.Core.Path.{sym, _∙_}
-use Rattle.writer.proofs.Writes.{cut-there, cut-long}
+use Rattle.lists.proofs.Fills.{cut-there, cut-long}
 use Rattle.tables.proofs.Turns.{names-counted}
 
 name-count-requires : tie.Need-name-count-requires

@@ -1,11 +1,11 @@
 -- Made by tools/prove.py from answers/table_fault.txt: change that file, not this one.
 -- `tables::table_fault` meets its contract: the first of the three.
-use borrow.Author.Needs.{needs}
 use Rattle.tables.proofs.table_fault.Statement.{statement}
 use Rattle.tables.proofs.table_fault.Tie as tie
-use mathlib.Core.Path.{refl, sym, _∙_}
+use mathlib.Core.Path.{_∙_}
 use Rattle.tables.specs.TablesCode.{tableFault}
 use Rattle.tables.proofs.Turns.{or-first, or-second}
+use borrow.Author.Needs.{needs}
 
 name-fault-requires : tie.Need-name-fault-requires
 name-fault-requires c κs = search needs

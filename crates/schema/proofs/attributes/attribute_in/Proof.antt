@@ -3,7 +3,7 @@
 use borrow.Author.Needs.{needs}
 use Rattle.schema.proofs.attributes.attribute_in.Statement.{statement}
 use Rattle.schema.proofs.attributes.attribute_in.Tie as tie
-use mathlib.Core.Path.{refl, ap, _∙_}
+use mathlib.Core.Path.{refl, _∙_}
 use Rattle.schema.specs.Schema.{rulesOf}
 use Rattle.schema.specs.SchemaCode.{attributeCount, attributes, kindName, attributeName, knows, attributeIn}
 use Rattle.lists.specs.BitsCode.{hasBit}

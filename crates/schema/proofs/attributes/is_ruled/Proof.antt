@@ -3,7 +3,7 @@
 use Rattle.schema.proofs.attributes.is_ruled.Statement.{statement}
 use Rattle.schema.proofs.attributes.is_ruled.Tie as tie
 use mathlib.Core.Path.{refl}
-use mathlib.Core.List.{[], _∷_, map}
+use mathlib.Core.List.{[], _∷_}
 use Rattle.text.specs.Texts.{bytes, same}
 use Rattle.schema.specs.Schema.{elements, rulesIn}
 use Rattle.schema.specs.SchemaCode.{kindCount, names, nameIn, isRuled}

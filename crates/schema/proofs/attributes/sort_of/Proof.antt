@@ -3,7 +3,7 @@
 use Rattle.schema.proofs.attributes.sort_of.Statement.{statement}
 use Rattle.schema.proofs.attributes.sort_of.Tie as tie
 use mathlib.Core.Path.{refl}
-use mathlib.Core.List.{[], _∷_, map}
+use mathlib.Core.List.{[], _∷_}
 use Rattle.text.specs.Texts.{bytes, same}
 use Rattle.schema.specs.Schema.{elements}
 use Rattle.schema.specs.SchemaCode.{attributeCount, attributes, nameIn, sortIn, allRules, sortOf}

@@ -3,9 +3,8 @@
 use borrow.Author.Needs.{needs}
 use Rattle.schema.proofs.kinds.is_held.Statement.{statement}
 use Rattle.schema.proofs.kinds.is_held.Tie as tie
-use mathlib.Core.Path.{_≡_, sym, ap, _∙_}
+use mathlib.Core.Path.{sym, _∙_}
 use native.Mathlib.Omega.{arith}
-use mathlib.Core.Bool.{_||_}
 use Rattle.schema.specs.Schema.{oneOf, under}
 use Rattle.schema.specs.SchemaCode.{kindCount, kindName, heldIn}
 use Rattle.lists.specs.BitsCode.{hasBit}

@@ -6,7 +6,6 @@ use Rattle.schema.proofs.kinds.is_in.Tie as tie
 use mathlib.Core.Path.{refl, _∙_}
 use mathlib.Core.Bool.{false}
 use native.Mathlib.Omega.{arith}
-use Rattle.text.specs.Texts.{bytes, same}
 use Rattle.schema.specs.Schema.{oneOf, under}
 use Rattle.schema.specs.SchemaCode.{kindCount, names, kindName}
 use Rattle.lists.specs.BitsCode.{hasBit}

@@ -3,8 +3,7 @@
 use borrow.Author.Needs.{needs}
 use Rattle.schema.proofs.kinds.kind_under.Statement.{statement}
 use Rattle.schema.proofs.kinds.kind_under.Tie as tie
-use mathlib.Core.Path.{refl, ap, _∙_}
-use mathlib.Core.Bool.{Bool}
+use mathlib.Core.Path.{refl}
 use Rattle.schema.specs.SchemaCode.{kindCount, names, kindName, heldIn, kindUnder}
 use Rattle.schema.proofs.Tables.{tested-none, tested-in, tested-out}
 

@@ -4,10 +4,8 @@ use borrow.Author.Needs.{needs}
 use Rattle.schema.proofs.names.attribute_of.Statement.{statement}
 use Rattle.schema.proofs.names.attribute_of.Tie as tie
 use mathlib.Core.Path.{refl, ap, _∙_}
-use Prim.Native.Nat.{ℕ}
-use lib.ListN.{getD}
 use Rattle.text.specs.Texts.{bytes, same}
-use Rattle.schema.specs.SchemaCode.{attributeCount, attributes, nameIn, positionOf, keyOf, keysFrom, keysOf}
+use Rattle.schema.specs.SchemaCode.{attributeCount, attributes, nameIn, positionOf, attributeWeight, keyOf, keysFrom, keyed}
 use Rattle.lists.specs.BitsCode.{from}
 use Rattle.schema.proofs.Tables.{met, unmet}
 
@@ -26,7 +24,7 @@ returns c = met attributes attributeCount refl _ _ _ (c .before .is-attribute .e
 
 returns-2 : tie.Need-returns-2
 unfolding bytes attributes nameIn from keyOf keysFrom
-returns-2 c = unmet attributes attributeCount refl _ _ _ (c .before .is-attribute .ensures) (λ n. getD (keysOf 25 attributes) (keyOf 25 n) 0) refl (c .before .before .attribute-by .ensures .0 ∙ ap (λ (i : ℕ). getD (keysOf 25 attributes) i 0) (c .before .before .before .key-of .ensures .0)) (c .if1 .left)
+returns-2 c = unmet attributes attributeCount refl _ _ _ (c .before .is-attribute .ensures) (λ n. keyed attributeWeight attributes (keyOf attributeWeight n)) refl (c .before .before .attribute-by .ensures .0 ∙ ap (keyed attributeWeight attributes) (c .before .before .before .key-of .ensures .0)) (c .if1 .left)
 
 pub attribute-of-spec : {M : Type 1} → statement M
 attribute-of-spec =

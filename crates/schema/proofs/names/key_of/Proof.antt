@@ -3,10 +3,7 @@
 use borrow.Author.Needs.{needs}
 use Rattle.schema.proofs.names.key_of.Statement.{statement}
 use Rattle.schema.proofs.names.key_of.Tie as tie
-use mathlib.Core.Path.{_≡_, refl, sym, ap}
-use mathlib.Core.List.{[]}
 use native.Mathlib.Omega.{arith}
-use Rattle.schema.specs.SchemaCode.{keyOf}
 use Rattle.schema.proofs.Tables.{key-none, key-some, low-product}
 
 returns : tie.Need-returns

@@ -4,10 +4,8 @@ use borrow.Author.Needs.{needs}
 use Rattle.schema.proofs.names.kind_of.Statement.{statement}
 use Rattle.schema.proofs.names.kind_of.Tie as tie
 use mathlib.Core.Path.{refl, ap, _∙_}
-use Prim.Native.Nat.{ℕ}
-use lib.ListN.{getD}
 use Rattle.text.specs.Texts.{bytes, same}
-use Rattle.schema.specs.SchemaCode.{kindCount, names, nameIn, positionOf, keyOf, keysFrom, keysOf}
+use Rattle.schema.specs.SchemaCode.{kindCount, names, nameIn, positionOf, elementWeight, keyOf, keysFrom, keyed}
 use Rattle.lists.specs.BitsCode.{from}
 use Rattle.schema.proofs.Tables.{met, unmet}
 
@@ -26,7 +24,7 @@ returns c = met names kindCount refl _ _ _ (c .before .is-kind .ensures) refl (c
 
 returns-2 : tie.Need-returns-2
 unfolding bytes names nameIn from keyOf keysFrom
-returns-2 c = unmet names kindCount refl _ _ _ (c .before .is-kind .ensures) (λ n. getD (keysOf 11 names) (keyOf 11 n) 0) refl (c .before .before .kind-by .ensures .0 ∙ ap (λ (i : ℕ). getD (keysOf 11 names) i 0) (c .before .before .before .key-of .ensures .0)) (c .if1 .left)
+returns-2 c = unmet names kindCount refl _ _ _ (c .before .is-kind .ensures) (λ n. keyed elementWeight names (keyOf elementWeight n)) refl (c .before .before .kind-by .ensures .0 ∙ ap (keyed elementWeight names) (c .before .before .before .key-of .ensures .0)) (c .if1 .left)
 
 pub kind-of-spec : {M : Type 1} → statement M
 kind-of-spec =

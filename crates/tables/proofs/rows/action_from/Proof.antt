@@ -6,7 +6,6 @@ use Rattle.tables.proofs.rows.action_from.Tie as tie
 use mathlib.Core.Path.{sym, _∙_}
 use Rattle.text.specs.Texts.{bytes}
 use Rattle.schema.specs.SchemaCode.{names, nameIn}
-use Rattle.tables.specs.RowsCode.{actionFrom}
 
 is-same-requires : tie.Need-is-same-requires
 is-same-requires c κs = search needs

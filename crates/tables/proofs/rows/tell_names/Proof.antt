@@ -27,7 +27,7 @@ kind-at-requires : tie.Need-kind-at-requires Inv-loop μ-loop
 kind-at-requires c κs = tt
 
 next-requires : tie.Need-next-requires Inv-loop μ-loop
-next-requires c κs = c .before .loop-test .taken
+next-requires c κs = tt
 
 is-in-requires : tie.Need-is-in-requires Inv-loop μ-loop
 is-in-requires c κs = tt
