@@ -1,4 +1,4 @@
-/* Prints how long the proved libraries take, in times of the plain C and of expat. Every figure is the least of many rounds; in each round the
+/* Prints how long the proved libraries take: in times of the plain C and of expat, and in MB/s and nanoseconds. Every figure is the least of many rounds; in each round the
    implementations run in turn, so that a slow moment hits them all. */
 #include "inputs.h"
 #include "plain.h"
@@ -120,10 +120,13 @@ static void bench_file(const char *name) {
     double t[3];
     convert_file();
     measure(convert, n, t);
-    printf("convert  %-8s  %6zu bytes    %6.2f times the time of plain C\n", name, file.len, t[0] / t[1]);
-    if (n == 3) printf("convert  %-8s  %6zu bytes    %6.2f times the time of expat's parse\n", name, file.len, t[0] / t[2]);
+    printf("convert  %-8s  %6zu bytes    %6.2f times the time of plain C   %7.1f MB/s\n", name, file.len, t[0] / t[1], file.len / t[0] / 1e6);
+    if (n == 3) {
+        printf("convert  %-8s  %6zu bytes    %6.2f times the time of expat's parse   %7.1f MB/s by expat\n", name, file.len, t[0] / t[2],
+               file.len / t[2] / 1e6);
+    }
     measure(load, 2, t);
-    printf("load     %-8s  %6zu words    %6.2f times the time of plain C\n", name, words, t[0] / t[1]);
+    printf("load     %-8s  %6zu words    %6.2f times the time of plain C   %7.1f ns\n", name, words, t[0] / t[1], t[0] * 1e9);
 }
 
 static void bench_plan(const char *name, const struct sizes *sizes) {
@@ -134,9 +137,9 @@ static void bench_plan(const char *name, const struct sizes *sizes) {
     convert_file();
     measure(replay, 2, t);
     for (int i = 0; i < EVENTS; i++) count[answers[EVENT * i] % 5]++;
-    printf("replay   %-8s  %6d events   %6.2f times the time of plain C   (%d triggers, %d statements, %d filters; %u recorded, %u idle, %u stopped, "
-           "%u ticks)\n",
-           name, EVENTS, t[0] / t[1], sizes->triggers, sizes->statements, sizes->filters, count[0], count[1], count[2], count[4]);
+    printf("replay   %-8s  %6d events   %6.2f times the time of plain C   %7.1f ns an event   (%d triggers, %d statements, %d filters; "
+           "%u recorded, %u idle, %u stopped, %u ticks)\n",
+           name, EVENTS, t[0] / t[1], t[0] / EVENTS * 1e9, sizes->triggers, sizes->statements, sizes->filters, count[0], count[1], count[2], count[4]);
 }
 
 int main(void) {

@@ -260,6 +260,23 @@ static void compare_edges(void) {
     }
 }
 
+/* A null pointer with length 0, in each place: answered as an empty buffer, and not followed. */
+static void compare_null(const struct text *file) {
+    static uint32_t plan[PLAN_ROOM];
+    static uint8_t events[EVENT], out[EVENT], event[EVENT];
+    uint64_t x = steamfiddle_convert(file->bytes, file->len, plan, PLAN_ROOM);
+    int same = steamfiddle_convert(NULL, 0, plan, PLAN_ROOM) == steamfiddle_convert(file->bytes, 0, plan, PLAN_ROOM);
+    same = same && steamfiddle_convert(file->bytes, file->len, NULL, 0) == steamfiddle_convert(file->bytes, file->len, plan, 0);
+    same = same && steamfiddle_load(NULL, 0) == steamfiddle_load(plan, 0);
+    same = same && steamfiddle_replay(NULL, 0, event, EVENT, 1, 2, 3, 4, out, EVENT) == 1 && out[0] == 20 && out[16] == 1;
+    same = same && steamfiddle_replay(plan, (uint32_t)x, NULL, 0, 0, 0, 0, 0, out, EVENT) == 0;
+    same = same && steamfiddle_replay(plan, (uint32_t)x, events, EVENT, 0, 0, 0, 0, NULL, 0) == 0;
+    if (!same) {
+        printf("check: a null pointer with length 0 is answered otherwise than an empty buffer\n");
+        exit(1);
+    }
+}
+
 static void print_counts(const char *what, const unsigned long *counts, int n) {
     printf("check: %s:", what);
     for (int i = 0; i < n; i++) {
@@ -274,6 +291,7 @@ int main(void) {
     make_small(&small);
     make_file(&typical, &typical_file);
     make_file(&full, &full_file);
+    compare_null(&small);
     compare_file(&small);
     compare_file(&typical);
     compare_file(&full);

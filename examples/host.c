@@ -1,44 +1,23 @@
-/* A host in C: converts the file named on the command line, loads its plan and runs a short list of events on it.
-   The events suit brake.xml; host.out has what is printed for it. Run examples/host.sh. */
+/* A host in C: converts a configuration file, loads its plan and runs the events of a list on it. Run examples/host.sh.
+
+   An event a line, the time in microseconds first; what stands behind # is a remark:
+     2000  tick
+     3000  error CHANNEL
+     20000 frame CHANNEL ID DLC     or remote, ext, ext-remote for frame */
 #include <inttypes.h>
 #include <stdint.h>
 #include <stdio.h>
+#include <string.h>
 
 #include "steamfiddle.h"
 
-enum { TICK, FRAME };
-enum { ERROR = 1, EXT = 4 };
+enum { MOST_EVENTS = 1024 };
 
 struct event {
-    uint64_t time; /* in microseconds */
+    uint64_t time;
     uint8_t kind, flags, channel, dlc;
     uint32_t id;
 };
-
-static const struct event list[] = {
-    {1000, FRAME, 0, 0, 4, 5},          /* no pass filter takes id 5 */
-    {2000, TICK, 0, 0, 0, 0},           /* the first event behind the filters: boot fires; start, then stop: 1,500 ms to go */
-    {3000, FRAME, ERROR, 1, 0, 0},      /* no message filter takes an error frame */
-    {10000, FRAME, 0, 0, 7, 100},       /* the pass filter takes a dlc of 1 to 6 */
-    {20000, FRAME, 0, 0, 6, 100},
-    {1501999, FRAME, 0, 0, 6, 100},     /* boot was true until 1,002,000 */
-    {1502000, FRAME, 0, 0, 6, 289},     /* the ending is over; the pedal's frames are 272 to 288 */
-    {1600000, FRAME, 0, 0, 2, 288},     /* pedal fires: start and stop again */
-    {1700000, FRAME, 0, 2, 2, 288},     /* refused: the plan has channels 0 and 1 */
-    {1599999, FRAME, 0, 0, 2, 288},     /* refused: before the last event */
-    {1700000, FRAME, 0, 0, 2, 2048},    /* refused: no identifier without ext */
-    {1800000, FRAME, EXT, 1, 8, 2048},  /* the stop filter */
-    {3099999, TICK, 0, 0, 0, 0},        /* pedal was true until 2,100,000 */
-    {3100000, FRAME, 0, 0, 1, 280},     /* the ending is over; pedal fires anew */
-    {3200000, FRAME, 0, 1, 3, 500},     /* short fires: the ending keeps its time and is complete */
-    {3650000, TICK, 0, 0, 0, 0},        /* pedal was true until 3,600,000 */
-    {3700000, FRAME, 0, 0, 2, 272},     /* pedal fires anew, but no start brings back a complete ending */
-    {4600000, FRAME, 0, 0, 2, 272},     /* halted */
-    {4700000, FRAME, 0, 0, 4, 5},       /* a halted logger filters nothing */
-    {4800000, TICK, 0, 0, 0, 0},
-};
-
-enum { EVENTS = sizeof list / sizeof list[0] };
 
 static void put(uint8_t *at, uint64_t number, int size)
 {
@@ -62,14 +41,51 @@ static void spell(uint8_t *at, const struct event *e)
     put(at + 8, e->time, 8);
 }
 
+/* The event that a line says; 0 if it says none, -1 if it is no good. */
+static int parse(const char *line, struct event *e)
+{
+    char kind[16] = "";
+    unsigned channel = 0, id = 0, dlc = 0;
+    int n = sscanf(line, "%" SCNu64 " %15s %u %u %u", &e->time, kind, &channel, &id, &dlc);
+    e->kind = STEAMFIDDLE_FRAME;
+    e->flags = 0;
+    e->channel = (uint8_t)channel;
+    e->id = id;
+    e->dlc = (uint8_t)dlc;
+    if (n < 1) return 0;
+    if (n == 2 && strcmp(kind, "tick") == 0) e->kind = STEAMFIDDLE_TICK;
+    else if (n == 3 && strcmp(kind, "error") == 0) e->flags = STEAMFIDDLE_ERROR;
+    else if (n == 5 && strcmp(kind, "frame") == 0) e->flags = 0;
+    else if (n == 5 && strcmp(kind, "remote") == 0) e->flags = STEAMFIDDLE_REMOTE;
+    else if (n == 5 && strcmp(kind, "ext") == 0) e->flags = STEAMFIDDLE_EXT;
+    else if (n == 5 && strcmp(kind, "ext-remote") == 0) e->flags = STEAMFIDDLE_EXT + STEAMFIDDLE_REMOTE;
+    else return -1;
+    return 1;
+}
+
+/* The events of a list; -1 if a line is no good or there are too many. */
+static int read_events(FILE *in, struct event *list)
+{
+    char line[256];
+    int count = 0;
+    while (fgets(line, sizeof line, in) != NULL) {
+        line[strcspn(line, "#\n")] = '\0';
+        if (count == MOST_EVENTS) return -1;
+        int found = parse(line, &list[count]);
+        if (found < 0) return -1;
+        count += found;
+    }
+    return count;
+}
+
 static void show(const struct event *e, const uint8_t *answer)
 {
     static const char *const answers[] = {"Recorded", "Idle", "Stopped", "Halted", "Ticked"};
     static const char *const states[] = {"Off", "On", "ending", "ending completely", "Halted"};
     printf("%" PRIu64 ": ", e->time);
-    if (answer[0] < 5) printf("%s, ", answers[answer[0]]);
+    if (answer[0] <= STEAMFIDDLE_TICKED) printf("%s, ", answers[answer[0]]);
     else printf("refused by %d, ", answer[0]);
-    printf("%s", answer[1] < 5 ? states[answer[1]] : "?");
+    printf("%s", answer[1] <= STEAMFIDDLE_LOGGING_HALTED ? states[answer[1]] : "?");
     if (get(answer + 8, 8) != 0) printf(" at %" PRIu64, get(answer + 8, 8));
     printf("; recorded %" PRIu64 ", idle %" PRIu64 ", stopped %" PRIu64 ", halted %" PRIu64 "\n", get(answer + 16, 4), get(answer + 20, 4),
            get(answer + 24, 4), get(answer + 28, 4));
@@ -77,28 +93,36 @@ static void show(const struct event *e, const uint8_t *answer)
 
 int main(int argc, char **argv)
 {
-    static uint8_t file[32769]; /* one byte more than any file may have, so that a longer one is refused */
+    static uint8_t file[STEAMFIDDLE_FILE_BYTES + 1]; /* one byte more than any file may have, so that a longer one is refused */
     static uint32_t plan[STEAMFIDDLE_PLAN_WORDS];
-    static uint8_t events[EVENTS * STEAMFIDDLE_RECORD_BYTES], out[EVENTS * STEAMFIDDLE_RECORD_BYTES];
+    static struct event list[MOST_EVENTS];
+    static uint8_t events[MOST_EVENTS * STEAMFIDDLE_RECORD_BYTES], out[MOST_EVENTS * STEAMFIDDLE_RECORD_BYTES];
 
-    FILE *in = argc == 2 ? fopen(argv[1], "rb") : NULL;
-    if (in == NULL) {
-        fprintf(stderr, "usage: host FILE, a configuration file that can be read\n");
+    FILE *in = argc == 3 ? fopen(argv[1], "rb") : NULL, *lines = argc == 3 ? fopen(argv[2], "r") : NULL;
+    if (in == NULL || lines == NULL) {
+        fprintf(stderr, "usage: host FILE EVENTS, a configuration file and a list of events that can be read\n");
         return 2;
     }
     size_t size = fread(file, 1, sizeof file, in);
+    int count = read_events(lines, list);
+    int unread = ferror(in) || ferror(lines);
     fclose(in);
+    fclose(lines);
+    if (unread || count < 0) {
+        fprintf(stderr, "host: a file could not be read, or a line of %s is no event\n", argv[2]);
+        return 2;
+    }
 
     uint64_t answer = steamfiddle_convert(file, size, plan, STEAMFIDDLE_PLAN_WORDS);
-    uint32_t number = (uint32_t)(answer >> 32), value = (uint32_t)answer;
+    uint32_t number = STEAMFIDDLE_NUMBER(answer), value = STEAMFIDDLE_VALUE(answer);
     if (number != 0) {
         printf("refused by %" PRIu32 " at %" PRIu32 "\n", number, value);
         return 1;
     }
     printf("a plan of %" PRIu32 " words, load answers %" PRIu32 "\n", value, steamfiddle_load(plan, value));
 
-    for (int i = 0; i < EVENTS; i++) spell(events + i * STEAMFIDDLE_RECORD_BYTES, &list[i]);
-    uint64_t n = steamfiddle_replay(plan, value, events, sizeof events, 0, 0, 0, 0, out, sizeof out);
+    for (int i = 0; i < count; i++) spell(events + i * STEAMFIDDLE_RECORD_BYTES, &list[i]);
+    uint64_t n = steamfiddle_replay(plan, value, events, (size_t)count * STEAMFIDDLE_RECORD_BYTES, 0, 0, 0, 0, out, sizeof out);
     for (uint64_t i = 0; i < n; i++) show(&list[i], out + i * STEAMFIDDLE_RECORD_BYTES);
     return 0;
 }

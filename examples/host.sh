@@ -1,6 +1,6 @@
 #!/bin/sh
-# Builds both libraries for C and examples/host.c over them, runs it on examples/brake.xml and compares with examples/host.out.
-# Needs a C compiler for x86-64; without one it says so and ends well.
+# Builds examples/host.c over an installed copy of the header and the two libraries, runs each list of events examples/NAME.events on examples/NAME.xml
+# and compares with examples/NAME.out. Needs a C compiler for x86-64; without one it says so and ends well.
 set -u
 cd "$(dirname "$0")/.." || exit 2
 
@@ -31,12 +31,14 @@ if [ "$machine" != x86_64 ]; then
     static=-static
 fi
 
-mkdir -p target
-for library in converter_c logger_c; do
-    rt staticlib "$library" >"target/host-$library.say" 2>&1 || { cat "target/host-$library.say"; say "FAILED: rt staticlib $library"; exit 1; }
+folder=$PWD/target/host
+./steamfiddle install "$folder" || { say "FAILED: ./steamfiddle install"; exit 1; }
+# what `pkg-config --cflags --libs steamfiddle_converter steamfiddle_logger` says of that folder
+"$compiler" -std=c99 -Wall -Wextra -pedantic -Werror -O2 $static "-I$folder/include" -o "$folder/host" examples/host.c \
+    "-L$folder/lib" -lsteamfiddle_converter -lsteamfiddle_logger || { say "FAILED: examples/host.c does not compile or link"; exit 1; }
+for events in examples/*.events; do
+    name=${events%.events}
+    ${emulator:+"$emulator"} "$folder/host" "$name.xml" "$events" >"$folder/out" || { say "FAILED: the program ended with status $? on $events"; exit 1; }
+    diff -u "$name.out" "$folder/out" || { say "FAILED: what was printed is not what $name.out has"; exit 1; }
 done
-"$compiler" -std=c99 -Wall -Wextra -pedantic -Werror -O2 $static -Iinclude -o target/host examples/host.c \
-    target/staticlib/libconverter_c.a target/staticlib/liblogger_c.a || { say "FAILED: examples/host.c does not compile or link"; exit 1; }
-${emulator:+"$emulator"} target/host examples/brake.xml >target/host.out || { say "FAILED: the program ended with status $?"; exit 1; }
-diff -u examples/host.out target/host.out || { say "FAILED: what was printed is not what examples/host.out has"; exit 1; }
-say "ok, examples/brake.xml converted, loaded and run from C; examples/host.out has what was printed"
+say "ok, examples/*.xml converted, loaded and run on examples/*.events from C; examples/*.out has what was printed"

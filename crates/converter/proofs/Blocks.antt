@@ -1,4 +1,5 @@
--- The rows of a document's entries, each made by an entry and those behind it, are those of its elements of some kind, each with what it holds.
+-- The rows of a document's entries, each made by an entry and those behind it, are those of its elements of some kind, each with what it
+-- holds.
 use Prim.Native.Nat.{ℕ}
 use mathlib.Core.Path.{_≡_, refl, sym, ap, subst, _∙_}
 use mathlib.Core.List.{List, [], _∷_, _++_, map, append-assoc, append-nil}
@@ -104,7 +105,8 @@ module _ {X : Type 0} (row : Entry → List Entry → List X) (block part inside
       ap (λ (l : List Known). rows (k ∷ l)) a
       ∙ by-cases (isBlock k)
       (λ b. at-block k ns ms b (beq-same (inside (k .name)) true (rw b at t)) h (y .0) (ys .0) w v q)
-      (λ b. beside k ns ms b (y .0) (rows-from (k .name) (within k) (ns ++ ms) (beq-same (inside (k .name)) false (rw b at t)) h (ys .0) w v) q)
+      (λ b. beside k ns ms b (y .0)
+      (rows-from (k .name) (within k) (ns ++ ms) (beq-same (inside (k .name)) false (rw b at t)) h (ys .0) w v) q)
 
   pub rows-are : (ks : List Known) → inside [] ≡ false → Nested [] ks → All P ks → All Named ks
       → rowsOf row (map entryOf ks) ≡ gathered g (kept isBlock ks)

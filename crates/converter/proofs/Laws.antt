@@ -115,7 +115,8 @@ module _ (f : List ℕ) where
     pub few-entries : r .fault .number ≡ 0 → length (take (r .end) ws) ≤ entryRoom
     few-entries h =
         let q = plain-at (x .index) (x .indexes) (sym (ap (λ (y : Refusal). y .number) (x .holds .fault)) ∙ h) in
-        let m : length (entries.written (x .index .entries)) ≤ entryMost = rw (q .entries) (few (q .root) (faultless-parts (q .root) (q .faultless) .0)) in
+        let m : length (entries.written (x .index .entries)) ≤ entryMost =
+        rw (q .entries) (few (q .root) (faultless-parts (q .root) (q .faultless) .0)) in
         omega (arith, ap length (x .holds .words), m)
 
 -- ---- by the tables
@@ -210,7 +211,8 @@ module _ (f d : List ℕ) (es : List Entry) (p : Plain f es) (t : Telling) (q : 
       -- the copy of the first words of the buffer
       pub late-written : (m : ℕ) (u : List ℕ) → Wrote (take (r .count) e) d m u → r .count ≤ length d → Converts f d (answer.Words m) u
       late-written m u g k =
-          let a : take (r .count) e ≡ words = ap (take (r .count)) (wrote .words) ∙ take-at words (drop (length words) b) (r .count) (sym (wrote .count)) in
+          let a : take (r .count) e ≡ words =
+          ap (take (r .count)) (wrote .words) ∙ take-at words (drop (length words) b) (r .count) (sym (wrote .count)) in
           let i : m ≡ length words = g .count ∙ ap length a in
           let v : u ≡ written words d = g .words ∙ ap (λ (l : List ℕ). written l d) a in
           rw (i, v) (Converts.converts words meets (rw (← wrote .count) k))

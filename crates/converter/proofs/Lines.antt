@@ -62,20 +62,23 @@ module _ (f : List ℕ) (ks : List Known) (h : Nested [] ks) (z : All Named ks) 
   unfolding triggerRow
   trigger-none k y b es = rw (y .named, b)
 
-  trigger-one : (k : Known) → Fit f k → isIn "TRIGGERS" k ≡ true → (es : List Entry) → triggerRow (entryOf k) es ≡ triggerWords (triggerOf k)
+  trigger-one : (k : Known) → Fit f k → isIn "TRIGGERS" k ≡ true → (es : List Entry)
+      → triggerRow (entryOf k) es ≡ triggerWords (triggerOf k)
   unfolding triggerRow
   trigger-one k y b es = rw (y .named, b) (ap triggerWords (trigger-is f k y b))
 
   root-outside : (oneOf (under (bytes "TRIGGERS") .carried) [] ≡ false)
       × ((oneOf (under (bytes "FILTERS") .carried) [] || same [] (bytes "CHANNEL")) ≡ false)
-      × ((same [] (bytes "STATEMENT") || (oneOf (under (bytes "STATEMENT") .carried) [] || oneOf (under (bytes "ACTIONS") .carried) [])) ≡ false)
+      × ((same [] (bytes "STATEMENT")
+      || (oneOf (under (bytes "STATEMENT") .carried) [] || oneOf (under (bytes "ACTIONS") .carried) [])) ≡ false)
   unfolding parents parentIn any bytes same
   root-outside = (refl, refl, refl)
 
   pub triggers-are : All (Fit f) ks → rowsOf triggerRow (map entryOf ks) ≡ gathered triggerWords (map triggerOf (kept (isIn "TRIGGERS") ks))
   triggers-are y =
       rows-are triggerRow (λ n. oneOf (under (bytes "TRIGGERS") .carried) n) (λ n. false)
-      (λ n. oneOf (under (bytes "TRIGGERS") .carried) n) triggers-inner triggers-outer (λ k. triggerWords (triggerOf k)) (Fit f) trigger-none
+      (λ n. oneOf (under (bytes "TRIGGERS") .carried) n) triggers-inner triggers-outer (λ k. triggerWords (triggerOf k)) (Fit f)
+      trigger-none
       (λ k y b es ps q. trigger-one k y b es) ks (root-outside .0) h y z
       ∙ gathered-map triggerWords triggerOf (kept (isIn "TRIGGERS") ks)
 
@@ -100,7 +103,8 @@ module _ (f : List ℕ) (ks : List Known) (h : Nested [] ks) (z : All Named ks) 
   unfolding filterRow
   filter-none k y b es = rw (y .named, b)
 
-  filter-one : (k : Known) → Fit f k → isFilter (k .name) ≡ true → (es : List Entry) → All (λ c. same (c .name) (bytes "CHANNEL") ≡ true) (within k)
+  filter-one : (k : Known) → Fit f k → isFilter (k .name) ≡ true → (es : List Entry)
+      → All (λ c. same (c .name) (bytes "CHANNEL") ≡ true) (within k)
       → front isChannel es ≡ map entryOf (within k) → filterRow (entryOf k) es ≡ filterOn k
   unfolding filterRow
   filter-one k y b es ps q =
@@ -129,7 +133,8 @@ module _ (f : List ℕ) where
   unfolding actionRow
   action-none c n t = rw (n, t)
 
-actions-are : (ms : List Known) → All Named ms → gathered actionRow (map entryOf ms) ≡ map (λ c. actionWord (actionOf c)) (kept (isIn "ACTIONS") ms)
+actions-are : (ms : List Known) → All Named ms
+    → gathered actionRow (map entryOf ms) ≡ map (λ c. actionWord (actionOf c)) (kept (isIn "ACTIONS") ms)
 unfolding gathered kept
 actions-are [] n = refl
 actions-are (c ∷ ms) n =
@@ -172,7 +177,8 @@ unfolding lateFault lineFault rowsOf
 late-first f names [] = refl
 late-first f names (e ∷ es) =
     by-cases (isKind (e .kind) "STATEMENT")
-    (λ t. rw (t, late-first f names es) (first-one (codeFrom f names es .verdict) (rows.textOf (front isInner es)) (rowsOf (faultRow f names) es)))
+    (λ t. rw (t, late-first f names es)
+    (first-one (codeFrom f names es .verdict) (rows.textOf (front isInner es)) (rowsOf (faultRow f names) es)))
     (λ t. rw (t, late-first f names es) refl)
 
 -- ---- statements, in which an EXPRESSION, ACTIONS and actions stand
@@ -194,7 +200,8 @@ lines-inner : eachPair (λ n m. cond (isLine n || isPart n) ((isLine m || isPart
 unfolding eachPair eachName parents parentIn any bytes same
 lines-inner = refl
 
-lines-outer : eachPair (λ n m. cond (isLine n || isPart n) true (Bool·beq (isLine m || isPart m) (isLine m) && not (isPart m))) parents ≡ true
+lines-outer : eachPair (λ n m. cond (isLine n || isPart n) true (Bool·beq (isLine m || isPart m) (isLine m) && not (isPart m))) parents
+    ≡ true
 unfolding eachPair eachName parents parentIn any bytes same
 lines-outer = refl
 
@@ -243,7 +250,8 @@ module _ (f : List ℕ) (room : length f ≤ 32768) (names : List (List ℕ)) wh
         rw (y .fit .named, b)
         (words-same (numberIn (entryOf k) "posttrigger") (valueOf k "posttrigger") (gathered actionRow (front isInner es)) (actionsOf k)
         (codeIn (codeFrom f names es)) (codeIn (codeOf names k)) (number-is f k (y .fit) (statement-ruled k b) "posttrigger" posted)
-        (ap (gathered actionRow) q ∙ (actions-are (within k) all-named ∙ sym (map-map actionWord actionOf (kept (isIn "ACTIONS") (within k)))))
+        (ap (gathered actionRow) q
+        ∙ (actions-are (within k) all-named ∙ sym (map-map actionWord actionOf (kept (isIn "ACTIONS") (within k)))))
         (ap codeIn code-is))
 
     fault-one : faultRow f names (entryOf k) es ≡ faultsOf names k

@@ -90,9 +90,11 @@ verdict-positive Good p = tt
 verdict-positive Broken p = omega arith
 verdict-positive Unknown p = omega arith
 
-pub late-number : (names : List (List ℕ)) (ks : List Known) (a : Fault) (l : List Fault) → gathered (faultsOf names) ks ≡ a ∷ l → 1 ≤ a .number
+pub late-number : (names : List (List ℕ)) (ks : List Known) (a : Fault) (l : List Fault) → gathered (faultsOf names) ks ≡ a ∷ l
+    → 1 ≤ a .number
 late-number names ks a l e =
     subst Positive e
     (positive-all (faultsOf names)
-    (λ k. positive-all (λ y. faultOf (verdictRefusal (codeOf names k .verdict)) (y .place)) (λ y. verdict-positive (codeOf names k .verdict) (y .place)) (expressionsOf k))
+    (λ k. positive-all (λ y. faultOf (verdictRefusal (codeOf names k .verdict)) (y .place))
+    (λ y. verdict-positive (codeOf names k .verdict) (y .place)) (expressionsOf k))
     ks)

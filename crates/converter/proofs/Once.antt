@@ -59,7 +59,7 @@ shapeless-shaped s TooLong n p x short w h e = absurd (omega (arith, h, short))
 shapeless-shaped s (Broken q) n p x short w h e = h .1 .0 x w
 
 -- what meets the rules is refused for want of room only
-refused-short : (s ws : List ℕ) (room n p : ℕ) → Meets s ws → Refuses s room n p → room < length ws
+pub refused-short : (s ws : List ℕ) (room n p : ℕ) → Meets s ws → Refuses s room n p → room < length ws
 refused-short s ws room n p m (Refuses.by-shape a h e) = absurd (shapeless-shaped s a n p (m .document) (m .short) (m .spells) h e)
 refused-short s ws room n p m (Refuses.by-fault x l ss short w j) =
     absurd

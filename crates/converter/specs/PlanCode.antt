@@ -1,5 +1,5 @@
--- The words of a plan by the entries of a file, one after the other. Code-shaped; proofs/ ties it to the definitions. Nothing here has to be
--- believed.
+-- The words of a plan by the entries of a file, one after the other. Code-shaped; proofs/ ties it to the definitions. Nothing here has to
+-- be believed.
 use Prim.Native.Nat.{ℕ, _≤_}
 use mathlib.Core.Path.{_≡_}
 use mathlib.Core.List.{List, [], _∷_, _++_}

@@ -1,11 +1,11 @@
 -- Entries one behind the other in a buffer of words: they are read back as they were written, and one more goes behind them.
-use Prim.Native.Nat.{ℕ, zero, suc, _+_, _≤_, _<_}
+use Prim.Native.Nat.{ℕ, zero, suc, _+_, _/_, _%_, _≤_, _<_}
 use native.Mathlib.Omega.{arith}
 use native.Mathlib.Nat.{le-refl, add-zero}
 use native.Mathlib.Numerals.{add-one}
 use mathlib.Core.Path.{_≡_, refl, sym, ap, _∙_}
 use mathlib.Core.List.{List, [], _∷_, _++_, append-assoc, append-nil}
-use mathlib.Core.Bool.{true, false}
+use mathlib.Core.Bool.{true}
 use lib.ListN.{length, getD, set, take, drop, length-append}
 use lib.Seq.{take-at, drop-at, length-take-le, take-all, take-suc}
 use borrow.Author.Tests.{le-leb, lt-leb}
@@ -16,8 +16,8 @@ use Rattle.lists.proofs.Fills.{filled-count, filled-one, filled-then}
 use Rattle.schema.specs.SchemaCode.{attributeCount, kindName, isRuled}
 use Rattle.element.specs.declared.Gathered.{Gathered}
 use Rattle.document.specs.declared.Walk.{Walk}
-use Rattle.document.specs.EntriesCode.{Entry, entryWords, written, rowWidth, entryMost, rowSize, entryFrom, entriesFrom, entriesIn}
-use Rattle.document.specs.DocumentCode.{entered, rowWords, entryBy, found, Formed, Sound, EnteredIs}
+use Rattle.document.specs.EntriesCode.{Entry, entryWords, written, entryMost, rowSize, entryFrom, entriesFrom, entriesIn}
+use Rattle.document.specs.DocumentCode.{entered, entryBy, found, Formed, Sound, EnteredIs}
 
 -- ---- read back
 drop-two : (m a b : ℕ) (l : List ℕ) → drop (m + 2) (a ∷ b ∷ l) ≡ drop m l
@@ -102,19 +102,41 @@ module _ (w : Walk) (ms : List ℕ) (s : Sound (w .end) ms) (e : Entry) where
 filled-self : (ws : List ℕ) (at : ℕ) → at ≤ length ws → Filled (take at ws) ws ws at
 filled-self ws at h = record { words = refl; rest = refl; long = refl; within = h }
 
-pub put-two : (ws : List ℕ) (at a b : ℕ) → at + 2 ≤ length ws
-    → Filled (take at ws ++ (a ∷ b ∷ [])) ws (set (set ws at a) (at + 1) b) (at + 2)
-put-two ws at a b h =
-    let x = filled-one (take at ws) ws ws at (at + 1) a (filled-self ws at (omega arith)) (omega arith) refl in
-    let y = filled-one (take at ws ++ (a ∷ [])) ws (set ws at a) (at + 1) (at + 2) b x (omega arith) (omega arith) in
-    rw (append-assoc (take at ws) (a ∷ []) (b ∷ [])) at y
+-- more behind what was put
+then-more : (ws ms ms′ done more : List ℕ) (n m : ℕ) → Filled done ws ms n → Filled (take n ms ++ more) ms ms′ m
+    → Filled (done ++ more) ws ms′ m
+then-more ws ms ms′ done more n m x y =
+    let a = length-take-le n ms (omega (arith, x .within, x .long)) in
+    filled-then more x y (omega (arith, a, filled-count y, length-append (take n ms) more))
 
-pub put-three : (ws : List ℕ) (at a b c : ℕ) → at + 3 ≤ length ws
-    → Filled (take at ws ++ (a ∷ b ∷ c ∷ [])) ws (set (set (set ws at a) (at + 1) b) (at + 2) c) (at + 3)
-put-three ws at a b c h =
-    let x = put-two ws at a b (omega arith) in
-    let y = filled-one (take at ws ++ (a ∷ b ∷ [])) ws (set (set ws at a) (at + 1) b) (at + 2) (at + 3) c x (omega arith) (omega arith) in
-    rw (append-assoc (take at ws) (a ∷ b ∷ []) (c ∷ [])) at y
+-- one more behind what was put
+put-more : (ws ms vs : List ℕ) (at n m v : ℕ) → Filled (take at ws ++ vs) ws ms n → n < length ws → n + 1 ≡ m
+    → Filled (take at ws ++ (vs ++ (v ∷ []))) ws (set ms n v) m
+put-more ws ms vs at n m v x h e =
+    rw (append-assoc (take at ws) vs (v ∷ [])) at (filled-one (take at ws ++ vs) ws ms n m v x h e)
+
+module _ (ws : List ℕ) (at k p n : ℕ) (h : at + 3 ≤ length ws) where
+  pub put-head : Filled (take at ws ++ (k ∷ p ∷ n ∷ [])) ws (set (set (set ws at k) (at + 1) p) (at + 2) n) (at + 3)
+  put-head =
+      let a = filled-one (take at ws) ws ws at (at + 1) k (filled-self ws at (omega arith)) (omega arith) refl in
+      let b = put-more ws _ (k ∷ []) at (at + 1) (at + 2) p a (omega arith) (omega arith) in
+      put-more ws _ (k ∷ p ∷ []) at (at + 2) (at + 3) n b (omega arith) (omega arith)
+
+  abbrev headed : List ℕ
+  headed = set (set (set ws at k) (at + 1) p) (at + 2) n
+
+  -- the words of an entry with a row
+  pub put-row : (g : Gathered) → at + 5 ≤ length ws → isRuled (kindName k) ≡ true → (ms : List ℕ) (r : ℕ)
+      → Filled (take (at + 5) (set (set headed (at + 3) (g .has % 4294967296)) (at + 4) (g .has / 4294967296)) ++ g .values)
+      (set (set headed (at + 3) (g .has % 4294967296)) (at + 4) (g .has / 4294967296)) ms r
+      → Filled (take at ws ++ entryWords (entryBy k p n g)) ws ms r
+  put-row g l t ms r y =
+      let low = g .has % 4294967296 in
+      let high = g .has / 4294967296 in
+      let a = put-more ws _ (k ∷ p ∷ n ∷ []) at (at + 3) (at + 4) low put-head (omega arith) (omega arith) in
+      let b = put-more ws _ (k ∷ p ∷ n ∷ low ∷ []) at (at + 4) (at + 5) high a (omega arith) (omega arith) in
+      rw t (rw (append-assoc (take at ws) (k ∷ p ∷ n ∷ low ∷ high ∷ []) (g .values)) at
+      (then-more ws _ ms (take at ws ++ (k ∷ p ∷ n ∷ low ∷ high ∷ [])) (g .values) (at + 5) r b y))
 
 -- the first a of the values, one more, and all
 pub values-none : (vs ws : List ℕ) (at : ℕ) → at ≤ length ws → Filled (take at ws ++ take 0 vs) ws ws (at + 0)
@@ -129,34 +151,3 @@ values-more vs ws ms at a x h k =
 pub values-all : (vs ws ms : List ℕ) (at a : ℕ) → Filled (take at ws ++ take a vs) ws ms (at + a) → length vs ≤ a
     → Filled (take at ws ++ vs) ws ms (at + a)
 values-all vs ws ms at a x h = rw (take-all a vs h) at x
-
--- more behind what was put
-pub then-more : (ws ms ms′ done more : List ℕ) (n m : ℕ) → Filled done ws ms n → Filled (take n ms ++ more) ms ms′ m
-    → Filled (done ++ more) ws ms′ m
-then-more ws ms ms′ done more n m x y =
-    let a = length-take-le n ms (omega (arith, x .within, x .long)) in
-    filled-then more x y (omega (arith, a, filled-count y, length-append (take n ms) more))
-
-pub put-ends : (ws ms done : List ℕ) (at r : ℕ) → Filled (take at ws ++ done) ws ms r → at ≤ length ws
-    → (r ≡ at + length done) × (length ms ≡ length ws)
-put-ends ws ms done at r x h =
-    (omega (arith, filled-count x, length-append (take at ws) done, length-take-le at ws h), x .long)
-
--- the words of an entry with a row, and of one without
-module _ (ws ms : List ℕ) (at k p n h : ℕ) (g : Gathered) (x : Filled (take at ws ++ (k ∷ p ∷ n ∷ [])) ws ms h) where
-  pub ruled-put : isRuled (kindName k) ≡ true → (ms′ : List ℕ) (r : ℕ) → Filled (take h ms ++ rowWords g) ms ms′ r
-      → Filled (take at ws ++ entryWords (entryBy k p n g)) ws ms′ r
-  ruled-put t ms′ r y =
-      rw t (rw (append-assoc (take at ws) (k ∷ p ∷ n ∷ []) (rowWords g)) at
-      (then-more ws ms ms′ (take at ws ++ (k ∷ p ∷ n ∷ [])) (rowWords g) h r x y))
-
-  pub bare-put : isRuled (kindName k) ≡ false → Filled (take at ws ++ entryWords (entryBy k p n g)) ws ms h
-  bare-put t = rw t x
-
-pub row-put : (ws : List ℕ) (at a b : ℕ) (vs ms : List ℕ) (r : ℕ) → at + rowWidth ≤ length ws
-    → Filled (take (at + 2) (set (set ws at a) (at + 1) b) ++ vs) (set (set ws at a) (at + 1) b) ms r
-    → Filled (take at ws ++ (a ∷ b ∷ vs)) ws ms r
-row-put ws at a b vs ms r h y =
-    let x = put-two ws at a b (omega arith) in
-    rw (append-assoc (take at ws) (a ∷ b ∷ []) vs) at
-    (then-more ws (set (set ws at a) (at + 1) b) ms (take at ws ++ (a ∷ b ∷ [])) vs (at + 2) r x y)

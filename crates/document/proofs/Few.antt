@@ -16,13 +16,13 @@ use Rattle.shape.specs.Shape.{Attribute, Node, node, Items}
 use Rattle.schema.specs.declared.Times.{Times}
 use Rattle.schema.specs.declared.Times.the-variants.{Once, OneTo, UpTo}
 use Rattle.schema.specs.Schema.{Rule, Parent, parents, parentIn, oneOf, under, elements, rulesIn, rulesOf}
-use Rattle.schema.specs.SchemaCode.{attributeCount, kindName, kindOf, attributeOf, isRuled, knows}
+use Rattle.schema.specs.SchemaCode.{attributeCount, attributeOf, isRuled, knows}
 use Rattle.schema.proofs.Laws.{in-every-parent}
-use Rattle.file_rules.specs.Element.{Known, Fault, worthBy, goodOf, tooMany, ownFaults}
+use Rattle.file_rules.specs.Element.{Known, worthBy, goodOf, tooMany, ownFaults}
 use Rattle.element.specs.declared.Gathered.{Gathered}
-use Rattle.element.specs.ElementCode.{nothingGathered, judged, gatheredList}
-use Rattle.document.specs.EntriesCode.{gatheredOf, entryOf, written, rowWidth, entryMost, rowSize}
-use Rattle.document.specs.DocumentCode.{Formed}
+use Rattle.element.specs.ElementCode.{nothingGathered, judged, gatheredList, firstNumber}
+use Rattle.element.proofs.Laws as own
+use Rattle.document.specs.EntriesCode.{gatheredOf, entryOf, written, rowWidth, entryMost}
 use Rattle.lists.specs.BitsCode.{hasBit}
 use Rattle.file_rules.specs.Document.{alsoNamed, knownIn, knownAt, knownElements}
 use Rattle.lists.proofs.Gathers.{gathered-append}
@@ -103,9 +103,6 @@ pub append-none : {Y : Type 0} (xs ys : List Y) → xs ++ ys ≡ [] → (xs ≡ 
 append-none [] ys e = (refl, e)
 append-none (x ∷ xs) ys e = absurd (omega (arith, ap length e))
 
-some-fault : {a : Fault} {l : List Fault} → a ∷ l ≡ [] → ⊥
-some-fault {a = a} {l = l} e = absurd (omega (arith, ap length e))
-
 abbrev pub Clean : List Known → Type 0
 Clean ks = gathered ownFaults ks ≡ []
 
@@ -116,13 +113,9 @@ pub clean-first : (k : Known) (ks : List Known) → Clean (k ∷ ks) → (ownFau
 unfolding gathered
 clean-first k ks e = append-none (ownFaults k) (gathered ownFaults ks) e
 
-clean-barred : (k : Known) → ownFaults k ≡ [] → oneOf (k .parent .barred) (k .name) ≡ false
-unfolding ownFaults
-clean-barred k e = by-cases (oneOf (k .parent .barred) (k .name)) (λ t. absurd (some-fault (rw t at e))) (λ t. t)
-
-clean-few : (k : Known) → ownFaults k ≡ [] → tooMany k ≡ false
-unfolding ownFaults
-clean-few k e = by-cases (tooMany k) (λ t. absurd (some-fault (rw (clean-barred k e, t) at e))) (λ t. t)
+pub own-clean : (k : Known) → ownFaults k ≡ [] → own.Clean k
+unfolding firstNumber
+own-clean k e = own.clean-law k (ap firstNumber e)
 
 -- ---- where an element with the name n counts `unit n`
 -- the most that an element with the name q can hold, d levels deep
@@ -184,11 +177,11 @@ module _ (unit : List ℕ → ℕ) (settled : Settled unit) where
         let b = room-is n in
         let r =
         room-less load (under q .carried) n earlier c (under q .times) (under q .name) (under q .barred) p l i
-        (clean-few (knownOf q earlier p n l i) (g .0)) in
+        (own-clean (knownOf q earlier p n l i) (g .0) .over) in
         rw c (omega (arith, a, b, r)))
         (λ c. by-cases (oneOf (under q .barred) n)
-        (λ b. absurd (true≢false (sym b ∙ clean-barred (knownOf q earlier p n l i)
-        ((clean-first (knownOf q earlier p n l i) (knownIn (under n) [] i) (rw (c, b) at h)) .0))))
+        (λ b. absurd (true≢false (sym b ∙ own-clean (knownOf q earlier p n l i)
+        ((clean-first (knownOf q earlier p n l i) (knownIn (under n) [] i) (rw (c, b) at h)) .0) .barred)))
         (λ b. rw (c, b) (omega arith)))
 
   -- in an element, and in the whole document
@@ -223,10 +216,6 @@ size n = 3 + cond (isRuled n) rowWidth 0
 
 row-is : (k : Known) → length (entryOf k .row) ≡ cond (isRuled (k .name)) rowWidth 0
 row-is k = by-cases (isRuled (k .name)) (λ t. rw t (omega (arith, all-long k))) (λ t. rw t)
-
-pub kept-formed : (k : Known) → kindName (kindOf (k .name)) ≡ k .name → Formed (entryOf k)
-unfolding rowSize
-kept-formed k e = rw e (row-is k)
 
 sum-size : (ks : List Known) → sum size ks ≡ length (written (map entryOf ks))
 unfolding sum gathered

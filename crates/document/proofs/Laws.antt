@@ -1,7 +1,7 @@
 -- The index of a well-shaped file: its first fault, or all its known elements. The answer of `index` is the only one of its contract.
 use Prim.Native.Nat.{ℕ, suc, _+_, _≤_}
 use native.Mathlib.Omega.{arith}
-use mathlib.Core.Path.{_≡_, refl, sym, ap, _∙_}
+use mathlib.Core.Path.{_≡_, refl, sym, ap, _∙_, subst}
 use mathlib.Core.List.{List, [], _∷_, _++_, map, map-append, append-assoc, append-nil}
 use mathlib.Core.Option.{Option, none, some}
 use mathlib.Core.Bool.{true, false}
@@ -14,7 +14,6 @@ use Rattle.lists.proofs.BitLaws.{bit-none}
 use Rattle.shape.specs.declared.Shape.{Shape}
 use Rattle.shape.specs.declared.Shape.the-variants.{Whole, TooLong, Broken}
 use Rattle.shape.specs.Shape.{Attribute, Node, node, Items, WellShaped, Shaped, shapeRefusal}
-use Rattle.shape.proofs.OneDoc.{one-doc}
 use Rattle.shape.proofs.OneAnswer.{one-answer}
 use Rattle.walk.specs.WalkCode as walk
 use Rattle.walk.specs.StandsCode.{ElementAt}
@@ -35,14 +34,12 @@ use Rattle.document.proofs.Few.{Clean, clean-first, few}
 use Rattle.lists.specs.Lists.{any, gathered}
 
 -- ---- the fold, if there is no fault
-pub enter-one : (done : List Known) (k : Known) → length (written (map entryOf done)) ≤ entryMost
-    → entered (indexOf done) (entryOf k) ≡ indexOf (done ++ (k ∷ []))
-unfolding entered indexOf
-enter-one done k h = rw (le-leb (length (written (map entryOf done))) entryMost h, map-append entryOf done (k ∷ []))
-
-enter-first : (done : List Known) (k : Known) → ownFaults k ≡ [] → absorbed k (indexOf done) ≡ entered (indexOf done) (entryOf k)
-unfolding indexOf firstNumber
-enter-first done k h = absorb-enter k (indexOf done) refl (ap firstNumber h)
+absorb-one : (done : List Known) (k : Known) → ownFaults k ≡ [] → length (written (map entryOf done)) ≤ entryMost
+    → absorbed k (indexOf done) ≡ indexOf (done ++ (k ∷ []))
+unfolding entered indexOf firstNumber
+absorb-one done k e h =
+    absorb-enter k (indexOf done) refl (ap firstNumber e)
+    ∙ rw (le-leb (length (written (map entryOf done))) entryMost h, map-append entryOf done (k ∷ []))
 
 written-some : (done ks : List Known)
     → length (written (map entryOf (done ++ ks))) ≡ length (written (map entryOf done)) + length (written (map entryOf ks))
@@ -54,7 +51,7 @@ written-some (d ∷ done) ks =
     let b = length-append (entryOf d .row) (written (map entryOf done)) in
     omega (arith, h, a, b)
 
-pub absorb-all : (done ks : List Known) → Clean ks → length (written (map entryOf (done ++ ks))) ≤ entryMost
+absorb-all : (done ks : List Known) → Clean ks → length (written (map entryOf (done ++ ks))) ≤ entryMost
     → absorb ks (indexOf done) ≡ indexOf (done ++ ks)
 unfolding absorb
 absorb-all done [] c h = ap indexOf (sym (append-nil done))
@@ -62,16 +59,8 @@ absorb-all done (k ∷ ks) c h =
     let g = clean-first k ks c in
     let n = written-some done (k ∷ ks) in
     let a : (done ++ (k ∷ [])) ++ ks ≡ done ++ (k ∷ ks) = append-assoc done (k ∷ []) ks in
-    ap (absorb ks) (enter-first done k (g .0) ∙ enter-one done k (omega (arith, n)))
+    ap (absorb ks) (absorb-one done k (g .0) (omega (arith, n)))
     ∙ (absorb-all (done ++ (k ∷ [])) ks (g .1) (rw a h) ∙ ap indexOf a)
-
-index-number : (ks : List Known) → indexOf ks .fault .number ≡ 0
-unfolding indexOf
-index-number ks = refl
-
-clean-index : (ks : List Known) → Clean ks → length (written (map entryOf ks)) ≤ entryMost → absorb ks empty ≡ indexOf ks
-unfolding indexOf
-clean-index ks c h = absorb-all [] ks c h
 
 -- the index x says what the faults gs say, or else the known elements ks
 abbrev pub Settles : List Fault → List Known → Index → Type 0
@@ -86,54 +75,47 @@ entered-number : (x : Index) (e : Entry) → entered x e .fault .number ≡ x .f
 unfolding entered
 entered-number x e = by-cases (leb (length (written (x .entries))) entryMost) (λ t. rw t) (λ t. rw t)
 
+-- the index is that of the fault a, which has a number
+abbrev Refuses : Index → Fault → Type 0
+Refuses x a = (x ≡ refusedIndex (a .number) (a .place)) × (a .number ≡ 0 → ⊥)
+
 absorb-at : (k : Known) (ks : List Known) (x : Index) → x .fault .number ≡ 0 → (a : Fault) (l fs : List Fault) → ownFaults k ≡ fs
     → fs ++ gathered ownFaults ks ≡ a ∷ l
-    → ((x : Index) → x .fault .number ≡ 0 → (a : Fault) (l : List Fault) → gathered ownFaults ks ≡ a ∷ l
-    → absorb ks x ≡ refusedIndex (a .number) (a .place)) → absorb ks (absorbed k x) ≡ refusedIndex (a .number) (a .place)
+    → ((x : Index) → x .fault .number ≡ 0 → (a : Fault) (l : List Fault) → gathered ownFaults ks ≡ a ∷ l → Refuses (absorb ks x) a)
+    → Refuses (absorb ks (absorbed k x)) a
 unfolding firstNumber
 absorb-at k ks x z a l [] e g rec =
     let h : firstNumber (ownFaults k) ≡ 0 = ap firstNumber e in
-    ap (absorb ks) (absorb-enter k x (eq-eqb (x .fault .number) 0 z) h)
-    ∙ rec (entered x (entryOf k)) (entered-number x (entryOf k) ∙ z) a l g
+    let r = rec (entered x (entryOf k)) (entered-number x (entryOf k) ∙ z) a l g in
+    (ap (absorb ks) (absorb-enter k x (eq-eqb (x .fault .number) 0 z) h) ∙ r .0, r .1)
 absorb-at k ks x z a l (b ∷ fs) e g rec =
     let h : firstNumber (ownFaults k) ≡ b .number = ap firstNumber e in
     let w : b .number ≡ 0 → ⊥ = λ y. absurd (omega (arith, ap length (sym e ∙ no-fault k (h ∙ y)))) in
-    let c : absorbed k x ≡ refusedIndex (b .number) (k .place) = absorb-refuse k x (eq-eqb (x .fault .number) 0 z) (b .number) h w in
-    ap (absorb ks) c
-    ∙ (absorb-still ks (refusedIndex (b .number) (k .place)) w
-    ∙ (ap (refusedIndex (b .number)) (sym (fault-place k b fs e))
-    ∙ ap (λ (y : Fault). refusedIndex (y .number) (y .place)) (head-of g)))
+    let c : absorbed k x ≡ refusedIndex (b .number) (k .place) = absorb-refuse k x (eq-eqb (x .fault .number) 0 z) (b .number) h w in (
+      ap (absorb ks) c
+          ∙ (absorb-still ks (refusedIndex (b .number) (k .place)) w
+          ∙ (ap (refusedIndex (b .number)) (sym (fault-place k b fs e))
+          ∙ ap (λ (y : Fault). refusedIndex (y .number) (y .place)) (head-of g))),
+      λ y. w (ap (λ (f : Fault). f .number) (head-of g) ∙ y),
+    )
 
 absorb-fault : (ks : List Known) (x : Index) → x .fault .number ≡ 0 → (a : Fault) (l : List Fault) → gathered ownFaults ks ≡ a ∷ l
-    → absorb ks x ≡ refusedIndex (a .number) (a .place)
+    → Refuses (absorb ks x) a
 unfolding absorb gathered
 absorb-fault [] x z a l g = absurd (omega (arith, ap length g))
 absorb-fault (k ∷ ks) x z a l g = absorb-at k ks x z a l (ownFaults k) refl g (absorb-fault ks)
-
-number-at : (k : Known) (ks : List Known) (a : Fault) (l fs : List Fault) → ownFaults k ≡ fs → fs ++ gathered ownFaults ks ≡ a ∷ l
-    → ((a : Fault) (l : List Fault) → gathered ownFaults ks ≡ a ∷ l → a .number ≡ 0 → ⊥) → a .number ≡ 0 → ⊥
-unfolding firstNumber
-number-at k ks a l [] e g rec z = rec a l g z
-number-at k ks a l (b ∷ fs) e g rec z =
-    absurd (omega (arith, ap length (sym e ∙ no-fault k (ap firstNumber e ∙ (ap (λ (y : Fault). y .number) (head-of g) ∙ z)))))
-
-fault-number : (ks : List Known) (a : Fault) (l : List Fault) → gathered ownFaults ks ≡ a ∷ l → a .number ≡ 0 → ⊥
-unfolding gathered
-fault-number [] a l g z = absurd (omega (arith, ap length g))
-fault-number (k ∷ ks) a l g z = number-at k ks a l (ownFaults k) refl g (fault-number ks) z
 
 -- ---- the answer, for what the visit of the root gave
 module _ (i : ℕ) (ks : List Known) (r : FoundSoFar) (s : Agrees ks r noneFound) where
   settled : (fs : List Fault) → gathered ownFaults ks ≡ fs → (Clean ks → length (written (map entryOf ks)) ≤ entryMost) → (gs : List Fault)
       → gs ≡ fs ++ 8 at i if any lacks ks → Settles gs ks (indexAt i r)
-  unfolding indexAt
+  unfolding indexAt indexOf
   settled (a ∷ l) g h gs e =
-      let n = fault-number ks a l g in
-      let x : r .index ≡ refusedIndex (a .number) (a .place) = s .index ∙ absorb-fault ks empty refl a l g in
-      rw (e, x) (rw (ne-eqb (a .number) 0 n) refl)
+      let f = absorb-fault ks empty refl a l g in
+      rw (e, s .index ∙ f .0) (rw (ne-eqb (a .number) 0 (f .1)) refl)
   settled [] g h gs e =
-      let x : r .index ≡ indexOf ks = s .index ∙ clean-index ks g (h g) in
-      let z : r .index .fault .number ≡ 0 = ap (λ (y : Index). y .fault .number) x ∙ index-number ks in
+      let x : r .index ≡ indexOf ks = s .index ∙ absorb-all [] ks g (h g) in
+      let z : r .index .fault .number ≡ 0 = ap (λ (y : Index). y .fault .number) x in
       let t : r .lacking ≡ any lacks ks = s .lacking z in
       by-cases (any lacks ks) (λ b. rw (e, eq-eqb (r .index .fault .number) 0 z, t, b) refl)
       (λ b. rw (e, eq-eqb (r .index .fault .number) 0 z, t, b) x)
@@ -203,37 +185,20 @@ indexes-long f s = Indexes.shapeless TooLong 1 32768 s refl
 pub indexes-broken : (f : List ℕ) (p : ℕ) → Shaped f (Broken p) → Indexes f (refusedIndex 2 p)
 indexes-broken f p s = Indexes.shapeless (Broken p) 2 p s refl
 
--- ---- it determines the index
-abbrev unsome : ℕ × ℕ → Option (ℕ × ℕ) → ℕ × ℕ
-unsome d none = d
-unsome d (some x) = x
+-- ---- it determines the index: that of the file's shape
+abbrev byShape : List ℕ → Option (ℕ × ℕ) → Index
+byShape f none = indexed f
+byShape f (some r) = refusedIndex (r .0) (r .1)
 
-shape-one : (f : List ℕ) (a : Shape) (n p : ℕ) (x : Node) → length f ≤ 32768 → WellShaped f x → Shaped f a → shapeRefusal a ≡ some (n, p)
-    → ⊥
-shape-one f Whole n p x short w s e =
-    let h : suc n ≡ n = ap (λ o. unsome (suc n, p) o .0) e in
-    absurd (omega (arith, h))
-shape-one f TooLong n p x short w s e = absurd (omega (arith, s, short))
-shape-one f (Broken q) n p x short w s e = s .1 .0 x w
-
-cons-one : {a b : Fault} {l m : List Fault} → a ∷ l ≡ b ∷ m → refusedIndex (a .number) (a .place) ≡ refusedIndex (b .number) (b .place)
-cons-one e = ap (λ (y : Fault). refusedIndex (y .number) (y .place)) (head-of e)
-
-some-one : (a b : ℕ × ℕ) → some a ≡ some b → refusedIndex (a .0) (a .1) ≡ refusedIndex (b .0) (b .1)
-some-one a b e = ap (λ o. refusedIndex (unsome a o .0) (unsome a o .1)) e
+index-is : (f : List ℕ) (i : Index) → Indexes f i → (a : Shape) × Shaped f a × (byShape f (shapeRefusal a) ≡ i)
+index-is f i (Indexes.shapeless a n p s e) = (a, s, ap (byShape f) e)
+index-is f i (Indexes.faulty x a l short w e) =
+    (Whole, (short, (x, w)), subst (λ gs. Settles gs (knownElements x) (indexed f)) e (index-law f x short w))
+index-is f i (Indexes.faultless x short w e) =
+    (Whole, (short, (x, w)), subst (λ gs. Settles gs (knownElements x) (indexed f)) e (index-law f x short w))
 
 pub one-index : (f : List ℕ) (i j : Index) → Indexes f i → Indexes f j → i ≡ j
-one-index f i j (Indexes.shapeless a n p s e) (Indexes.shapeless b m q t g) =
-    some-one (n, p) (m, q) (sym e ∙ (ap shapeRefusal (one-answer f a b s t) ∙ g))
-one-index f i j (Indexes.shapeless a n p s e) (Indexes.faulty x b l short w g) = absurd (shape-one f a n p x short w s e)
-one-index f i j (Indexes.shapeless a n p s e) (Indexes.faultless x short w g) = absurd (shape-one f a n p x short w s e)
-one-index f i j (Indexes.faulty x b l short w g) (Indexes.shapeless a n p s e) = absurd (shape-one f a n p x short w s e)
-one-index f i j (Indexes.faultless x short w g) (Indexes.shapeless a n p s e) = absurd (shape-one f a n p x short w s e)
-one-index f i j (Indexes.faulty x a l short w e) (Indexes.faulty y b m h v g) =
-    cons-one (sym e ∙ (ap elementFaults (one-doc f x y w v) ∙ g))
-one-index f i j (Indexes.faulty x a l short w e) (Indexes.faultless y h v g) =
-    absurd (omega (arith, ap length (sym e ∙ (ap elementFaults (one-doc f x y w v) ∙ g))))
-one-index f i j (Indexes.faultless x short w e) (Indexes.faulty y b m h v g) =
-    absurd (omega (arith, ap length (sym e ∙ (ap elementFaults (one-doc f x y w v) ∙ g))))
-one-index f i j (Indexes.faultless x short w e) (Indexes.faultless y h v g) =
-    ap (λ (z : Node). indexOf (knownElements z)) (one-doc f x y w v)
+one-index f i j x y =
+    let a = index-is f i x in
+    let b = index-is f j y in
+    sym (a .2) ∙ (ap (λ (c : Shape). byShape f (shapeRefusal c)) (one-answer f (a .0) (b .0) (a .1) (b .1)) ∙ b .2)

@@ -3,7 +3,7 @@ use Prim.Native.Nat.{ℕ, zero, suc, _+_, _≤_, _<_}
 use native.Mathlib.Omega.{arith}
 use mathlib.Core.Path.{_≡_, refl, sym, ap, _∙_, subst}
 use mathlib.Core.List.{List, [], _∷_}
-use mathlib.Core.Bool.{Bool, true, false, _||_}
+use mathlib.Core.Bool.{Bool, true, false, _||_, or-assoc, or-comm, or-false}
 use lib.Dec.{eqb}
 use lib.ListN.{length}
 use lib.Seq.{slice}
@@ -32,20 +32,8 @@ use Rattle.document.proofs.Seens.{SeenIs, seen-none, seen-on, over-is, 
 use Rattle.document.proofs.Turns.{visit-text, visit-remark, visit-child, visit-close}
 use Rattle.lists.specs.Lists.{any}
 
-or-assoc : (a b c : Bool) → ((a || b) || c) ≡ (a || (b || c))
-or-assoc true b c = refl
-or-assoc false b c = refl
-
 or-turn : (a b c : Bool) → ((a || b) || c) ≡ (a || (c || b))
-or-turn true b c = refl
-or-turn false true true = refl
-or-turn false true false = refl
-or-turn false false true = refl
-or-turn false false false = refl
-
-or-none : (a : Bool) → a ≡ (a || false)
-or-none true = refl
-or-none false = refl
+or-turn a b c = or-assoc a b c ∙ ap (λ (t : Bool). a || t) (or-comm b c)
 
 -- ---- text before items changes nothing
 pub known-texted : (q : Parent) (earlier : List (List ℕ)) (w : List ℕ) (i : Items) → knownIn q earlier (texted w i) ≡ knownIn q earlier i
@@ -103,7 +91,8 @@ module _ (f : List ℕ) where
         → AgreesIn [] (unmet Q earlier) (closedWalk r q s) r
     unfolding closedWalk absorb any
     closes earlier s y r =
-        record { index = refl; lacking = λ z. rw (lack-is q earlier s y) (ap (λ (b : Bool). b || unmet Q earlier) (or-none (r .lacking))) }
+        let n = sym (or-false (r .lacking)) in
+        record { index = refl; lacking = λ z. rw (lack-is q earlier s y) (ap (λ (b : Bool). b || unmet Q earlier) n) }
 
     turn : (n j : ℕ) (i : Items) (e : ℕ) → length f < suc n + j
         → ((k : ℕ) (i : Items) → ContentStands f d k i e → length f < n + k → Turns n k i e) → (p : Item) → p ≡ walk.itemAt f j
@@ -257,8 +246,8 @@ module _ (f : List ℕ) where
       unknown c b =
           rw (kind-carried q n ∙ c, kind-barred q n ∙ b)
           (by-cases (eqb (r .index .fault .number) 0)
-          (λ o. rw o (record { index = refl; lacking = λ g. or-none (r .lacking) }))
-          (λ o. rw o (record { index = refl; lacking = λ g. or-none (r .lacking) })))
+          (λ o. rw o (record { index = refl; lacking = λ g. sym (or-false (r .lacking)) }))
+          (λ o. rw o (record { index = refl; lacking = λ g. sym (or-false (r .lacking)) })))
 
       one : Agrees (knownAt (under (kindName q)) earlier (node i n l t))
           (visitFrom f (suc d) i (childAt f i q) (isOver q (childAt f i q) s) r) r

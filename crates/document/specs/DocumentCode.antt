@@ -1,5 +1,5 @@
 -- What the functions answer, for every input. Code-shaped; proofs/Laws.antt ties it to the definitions. Nothing here has to be believed.
-use Prim.Native.Nat.{ℕ, zero, suc, _+_, _/_, _%_, _≤_}
+use Prim.Native.Nat.{ℕ, zero, suc, _+_, _≤_}
 use mathlib.Core.Path.{_≡_}
 use mathlib.Core.Option.{some}
 use mathlib.Core.List.{List, [], _∷_, _++_, map}
@@ -179,10 +179,7 @@ pub record Sound (end : ℕ) (ms : List ℕ) : Type 0 where
   pub words : take end ms ≡ written entries
   pub long : end ≡ length (written entries)
 
--- the words of a row; an entry by what was read of it
-abbrev pub rowWords : Gathered → List ℕ
-rowWords g = g .has % 4294967296 ∷ g .has / 4294967296 ∷ g .values
-
+-- an entry by what was read of it
 abbrev pub entryBy : ℕ → ℕ → ℕ → Gathered → Entry
 entryBy k p n g = record { kind = k; place = p; number = n; row = rowFrom (kindName k) g }
 

@@ -50,8 +50,8 @@ entryWords e = e .kind ∷ e .place ∷ e .number ∷ e .row
 abbrev pub written : List Entry → List ℕ
 written es = gathered entryWords es
 
--- the words of a row; the most that all entries of a document without faults have, of which there are 382, 86 with a row; and so much room that
--- any entry fits behind these
+-- the words of a row; the most that all entries of a document without faults have, of which there are 382, 86 with a row; and so much room
+-- that any entry fits behind these
 abbrev pub rowWidth : ℕ
 rowWidth = attributeCount + 2
 

@@ -5,14 +5,14 @@
 // May not touch: what the elements say together (names, channels, expressions): that is for the crates above.
 ghost use mathlib.Core.Path.{_≡_};
 ghost use Prim.Native.Nat.{ℕ, suc, _+_, _≤_, _<_};
-ghost use mathlib.Core.List.{List, [], _∷_, _++_};
+ghost use mathlib.Core.List.{List, _++_};
 ghost use lib.ListN.{length, take};
 ghost use Rattle.shape.specs.declared.Shape.the-variants.{Whole};
 ghost use Rattle.shape.specs.Shape.{Shaped};
 ghost use Rattle.walk.specs.WalkCode.{nameAt, contentAt, skipped};
 ghost use Rattle.schema.specs.SchemaCode.{kindCount, attributeCount};
-ghost use Rattle.document.specs.EntriesCode.{rowWidth, entryRoom};
-ghost use Rattle.document.specs.DocumentCode.{refusedIndex, refusedFound, noneSeen, oneMore, marked, isOver, lacksSome, closedWalk, childAt, looked, firstFault, visitBody, visitFrom, indexAt, noneFound, indexed, rowWords, entryBy, found, Sound, Ready, VisitedIs, InsideIs, EnteredIs, Holds, IndexedIn};
+ghost use Rattle.document.specs.EntriesCode.{entryRoom};
+ghost use Rattle.document.specs.DocumentCode.{refusedIndex, refusedFound, oneMore, marked, isOver, lacksSome, closedWalk, childAt, looked, firstFault, visitBody, visitFrom, indexAt, noneFound, indexed, entryBy, found, Sound, Ready, VisitedIs, InsideIs, EnteredIs, Holds, IndexedIn};
 ghost use Rattle.lists.specs.FillsCode.{Filled};
 use element::Gathered;
 use element::faults;
@@ -94,29 +94,7 @@ fn put_values(values: [u32; ATTRIBUTES], at: usize, words: &mut [u32]) -> usize
     at + a
 }
 
-// Which attributes there are, and their numbers.
-fn put_row(g: Gathered, at: usize, words: &mut [u32]) -> usize
-    requires { ⌜ at + rowWidth ≤ length (now words) ⌝ }
-    ensures { λ r. ⌜ Filled (take at (now (words .entry)) ++ rowWords g) (now (words .entry)) (now (words .exit)) r ⌝ }
-{
-    let values = g.values;
-    words[at] = (g.has % 4294967296) as u32;
-    words[at + 1] = (g.has / 4294967296) as u32;
-    put_values(values, at + 2, words)
-}
-
-// An element's kind, its place and the number in its text.
-fn put_head(kind: usize, place: usize, number: u32, at: usize, words: &mut [u32]) -> usize
-    requires { ⌜ (at + 3 ≤ length (now words)) × (kind < kindCount) × (place ≤ 32768) ⌝ }
-    ensures { λ r. ⌜ Filled (take at (now (words .entry)) ++ (kind ∷ place ∷ number ∷ [])) (now (words .entry)) (now (words .exit)) r ⌝ }
-{
-    words[at] = kind as u32;
-    words[at + 1] = place as u32;
-    words[at + 2] = number;
-    at + 3
-}
-
-// The element where the walk stands is entered, if there is room for it.
+// The element where the walk stands is entered, if there is room for it: its kind, its place, the number in its text, and its row.
 fn enter(walk: Walk, kind: usize, number: u32, g: Gathered, words: &mut [u32]) -> Walk
     requires { ⌜ (length (now words) ≡ entryRoom) × (walk .at ≤ 32768) × (kind < kindCount) × Sound (walk .end) (now words) ⌝ }
     ensures { λ r. ⌜ EnteredIs (found walk (now (words .entry))) (entryBy kind (walk .at) number g) (walk .at) r (now (words .exit)) ⌝ }
@@ -126,12 +104,17 @@ fn enter(walk: Walk, kind: usize, number: u32, g: Gathered, words: &mut [u32]) -
     if MOST < at {
         return next;
     }
-    let head = put_head(kind, walk.at, number, at, words);
+    words[at] = kind as u32;
+    words[at + 1] = walk.at as u32;
+    words[at + 2] = number;
     if attributes::is_ruled(kind) {
-        next.end = put_row(g, head, words);
+        let values = g.values;
+        words[at + 3] = (g.has % 4294967296) as u32;
+        words[at + 4] = (g.has / 4294967296) as u32;
+        next.end = put_values(values, at + 5, words);
         return next;
     }
-    next.end = head;
+    next.end = at + 3;
     next
 }
 
@@ -153,12 +136,6 @@ fn move_to(walk: Walk, at: usize) -> Walk
     let mut next = walk;
     next.at = at;
     next
-}
-
-fn none_seen() -> Seen
-    ensures { λ r. ⌜ r ≡ noneSeen ⌝ }
-{
-    Seen { count: 0, kinds: 0 }
 }
 
 // Beyond every limit the count stands still.
@@ -253,13 +230,7 @@ fn is_looked_at(walk: Walk, kind: usize) -> bool
     ensures { λ r. ⌜ ((ms : List ℕ) → r ≡ looked (found walk ms) kind) ⌝ }
 {
     let fault = walk.fault;
-    if fault.number != 0 {
-        return false;
-    }
-    if kinds::is_carried(kind) {
-        return true;
-    }
-    kinds::is_barred(kind)
+    (fault.number == 0) & (kinds::is_carried(kind) | kinds::is_barred(kind))
 }
 
 // Over the element where the walk stands.
@@ -315,11 +286,11 @@ fn visit_inside(
 {
     let i = entered.at;
     match body {
-        Body::Broken => close(entered, kind, none_seen(), i, false),
-        Body::Empty(e) => close(entered, kind, none_seen(), e, false),
+        Body::Broken => close(entered, kind, Seen { count: 0, kinds: 0 }, i, false),
+        Body::Empty(e) => close(entered, kind, Seen { count: 0, kinds: 0 }, e, false),
         Body::Open(o) => {
             let mut all = move_to(entered, o);
-            let mut seen = none_seen();
+            let mut seen = Seen { count: 0, kinds: 0 };
             let mut stray = false;
             while all.at < file.len() {
                 all.at = runs::blanks_end(file, all.at);

@@ -124,21 +124,15 @@ module _ (rs : List Rule) (lists : (n : List ℕ) → knows rs n ≡ true → Li
   five-kept [] g x = refl
   five-kept (a ∷ l) g x = ap (λ (y : Gathered). y .five) (fold-fit a l g (x .0) (x .1)) ∙ five-kept l (taken rs g a) (x .2)
 
-  six-is : (l : List Attribute) (g : Gathered) → Fits rs g l
-      → gatheredList rs l g .six ≡ (any (λ a. isBad (worthBy rs a)) l || g .six)
-  unfolding Fits gatheredList any
-  six-is [] g x = refl
-  six-is (a ∷ l) g x =
-      ap (λ (y : Gathered). y .six) (fold-fit a l g (x .0) (x .1)) ∙ (six-is l (taken rs g a) (x .2)
-      ∙ swap (any (λ b. isBad (worthBy rs b)) l) (isBad (worthBy rs a)) (g .six))
-
-  seven-is : (l : List Attribute) (g : Gathered) → Fits rs g l
-      → gatheredList rs l g .seven ≡ (any (λ a. isNotCarried (worthBy rs a)) l || g .seven)
-  unfolding Fits gatheredList any
-  seven-is [] g x = refl
-  seven-is (a ∷ l) g x =
-      ap (λ (y : Gathered). y .seven) (fold-fit a l g (x .0) (x .1)) ∙ (seven-is l (taken rs g a) (x .2)
-      ∙ swap (any (λ b. isNotCarried (worthBy rs b)) l) (isNotCarried (worthBy rs a)) (g .seven))
+  -- a flag that is set by each attribute for which a test holds
+  module _ (flag : Gathered → Bool) (test : Attribute → Bool)
+      (put : (g : Gathered) (a : Attribute) → knows rs (a .name) ≡ true → flag (taken rs g a) ≡ (test a || flag g)) where
+    flag-is : (l : List Attribute) (g : Gathered) → Fits rs g l → flag (gatheredList rs l g) ≡ (any test l || flag g)
+    unfolding Fits gatheredList any
+    flag-is [] g x = refl
+    flag-is (a ∷ l) g x =
+        ap flag (fold-fit a l g (x .0) (x .1)) ∙ (flag-is l (taken rs g a) (x .2)
+        ∙ (ap (λ (t : Bool). any test l || t) (put g a (x .0)) ∙ swap (any test l) (test a) (flag g)))
 
   -- what an attribute does at the number of the name n
   module _ (g : Gathered) (a : Attribute) (k : knows rs (a .name) ≡ true) (n : List ℕ) (l : Listed n) where
@@ -207,13 +201,6 @@ module _ (rs : List Rule) (lists : (n : List ℕ) → knows rs n ≡ true → Li
 
   -- what a name has come to
   module _ (n : List ℕ) (o : Listed n) where
-    has-is : (l : List Attribute) (g : Gathered) → Fits rs g l → holds (gatheredList rs l g) n ≡ (given n l || holds g n)
-    unfolding Fits gatheredList given any
-    has-is [] g x = refl
-    has-is (a ∷ l) g x =
-        ap (λ (y : Gathered). holds y n) (fold-fit a l g (x .0) (x .1)) ∙ (has-is l (taken rs g a) (x .2)
-        ∙ (ap (λ (t : Bool). given n l || t) (has-taken g a (x .0) n o) ∙ swap (given n l) (same (a .name) n) (holds g n)))
-
     value-is : (l : List Attribute) (g : Gathered) → length (g .values) ≡ attributeCount → Fits rs g l
         → worthOn (gatheredList rs l g) n
         ≡ cond (given n l) (goodOf (worthBy rs (record { name = n; value = givenValue n l }))) (worthOn g n)
@@ -263,16 +250,17 @@ module _ (rs : List Rule) (lists : (n : List ℕ) → knows rs n ≡ true → Li
 
       pub bad-is : whole .six ≡ any (λ a. isBad (worthBy rs a)) l
       unfolding nothingGathered
-      bad-is = six-is l nothingGathered fits ∙ or-false _
+      bad-is = flag-is (λ g. g .six) (λ a. isBad (worthBy rs a)) (λ g a k. refl) l nothingGathered fits ∙ or-false _
 
       pub not-carried-is : whole .seven ≡ any (λ a. isNotCarried (worthBy rs a)) l
       unfolding nothingGathered
-      not-carried-is = seven-is l nothingGathered fits ∙ or-false _
+      not-carried-is = flag-is (λ g. g .seven) (λ a. isNotCarried (worthBy rs a)) (λ g a k. refl) l nothingGathered fits ∙ or-false _
 
       module _ (n : List ℕ) (o : Listed n) where
         pub given-is : holds whole n ≡ given n l
+        unfolding given
         given-is =
-            has-is n o l nothingGathered fits
+            flag-is (λ g. holds g n) (λ a. same (a .name) n) (λ g a k. has-taken g a k n o) l nothingGathered fits
             ∙ (ap (λ (t : Bool). given n l || t) (nothing-has n) ∙ or-false (given n l))
 
         pub spelled-is : worthOn whole n ≡ goodOf (worthBy rs (record { name = n; value = givenValue n l }))

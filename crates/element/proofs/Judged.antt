@@ -3,12 +3,12 @@ use Prim.Native.Nat.{ℕ, _≤_, _<_}
 use native.Mathlib.Omega.{arith}
 use mathlib.Core.Path.{_≡_, refl, sym, ap, _∙_}
 use mathlib.Core.List.{List, [], _∷_}
-use mathlib.Core.Bool.{Bool, true, false, cond}
-use lib.Dec.{ltb}
-use borrow.Author.Tests.{lt-ltb}
+use mathlib.Core.Bool.{Bool, true, false, cond, _||_}
+use lib.Dec.{leb, ltb}
+use borrow.Author.Tests.{lt-ltb, lt-leb}
 use Rattle.text.specs.Texts.{bytes, same}
 use Rattle.lists.specs.BitsCode.{hasBit, withBit}
-use Rattle.lists.proofs.Cases.{by-cases}
+use Rattle.lists.proofs.Cases.{by-cases, le-or-lt}
 use Rattle.values.specs.declared.Sort.{Sort}
 use Rattle.values.specs.declared.Worth.{Worth}
 use Rattle.values.specs.Values.{worthOf}
@@ -49,7 +49,7 @@ module _ (kind : ℕ) (g : Gathered) (n v : List ℕ) (a : ℕ) (q : a ≡ attri
   abbrev here : Attribute
   here = record { name = n; value = v }
 
-  pub judge-unknown : attributeCount ≤ a → unfitted g ≡ judged (rulesFor kind) g here
+  judge-unknown : attributeCount ≤ a → unfitted g ≡ judged (rulesFor kind) g here
   unfolding attributeIn
   judge-unknown h =
       by-cases (knows (rulesFor kind) n)
@@ -74,7 +74,7 @@ module _ (kind : ℕ) (g : Gathered) (n v : List ℕ) (a : ℕ) (q : a ≡ attri
       held : b ≡ hasBit (g .has) (attributeOf n)
       held = e ∙ ap (hasBit (g .has)) number
 
-      pub judge-again : b ≡ true → unfitted g ≡ judged (rulesFor kind) g here
+      judge-again : b ≡ true → unfitted g ≡ judged (rulesFor kind) g here
       judge-again t = sym (judged-again (rulesFor kind) g here known (sym held ∙ t))
 
       pub judge-fit : b ≡ false → (s : Sort) (w : Worth) → s ≡ sortOf (attributeName a) → w ≡ worthOf s v
@@ -83,3 +83,7 @@ module _ (kind : ℕ) (g : Gathered) (n v : List ℕ) (a : ℕ) (q : a ≡ attri
           sym (judged-fit (rulesFor kind) g here known (sym held ∙ t)
           ∙ (ap (λ (i : ℕ). putWorth g i (worthBy (rulesFor kind) here)) (sym number)
           ∙ ap (putWorth g a) (worth-by (rulesFor kind) n v ∙ (ap (λ (z : Sort). worthOf z v) (sym (x ∙ own-sort)) ∙ sym y))))
+
+  pub judge-unfit : (b : Bool) → b ≡ hasBit (g .has) a → (leb attributeCount a || b) ≡ true → unfitted g ≡ judged (rulesFor kind) g here
+  judge-unfit b e t =
+      le-or-lt attributeCount a judge-unknown (λ h. judge-again h b e (ap (λ (c : Bool). c || b) (sym (lt-leb attributeCount a h)) ∙ t))

@@ -3,8 +3,8 @@ use Prim.Native.Nat.{ℕ, suc, _≤_}
 use Prim.Native.String.{String}
 use native.Mathlib.Omega.{arith}
 use mathlib.Core.Path.{_≡_, refl, sym, ap, _∙_, subst}
-use mathlib.Core.List.{List, [], _∷_, _++_}
-use mathlib.Core.Bool.{Bool, true, false, not, cond, _&&_, _||_}
+use mathlib.Core.List.{List, [], _∷_, _++_, map, append-nil}
+use mathlib.Core.Bool.{Bool, true, false, not, cond, _&&_, _||_, or-false, or-assoc}
 use lib.ListN.{length}
 use lib.Seq.{slice}
 use Rattle.text.specs.Texts.{bytes, same}
@@ -20,29 +20,19 @@ use Rattle.schema.specs.SchemaCode.{attributes, kindName, knows}
 use Rattle.schema.proofs.Laws.{Listed, listed}
 use Rattle.file_rules.specs.Element.{Known, Fault, _at_if_, isBad, isNotCarried, goodOf, worthBy, givenValue, given, has, valueOf, channelOf, tooMany, misfit, crossed, misworded, ownFaults}
 use Rattle.element.specs.declared.Gathered.{Gathered}
-use Rattle.element.specs.ElementCode.{nothingGathered, gatheredAt, gatheredList, flagOf, numberOf, isKind, lacksRequired, unpaired, lacking, boundsCrossed, shortText, said, saidAt, worded, badText, verdict, ownFault, firstNumber, valueAt}
+use Rattle.element.specs.ElementCode.{nothingGathered, spelt, placedBehind, gatheredAt, gatheredList, flagOf, numberOf, isKind, lacksRequired, unpaired, lacking, boundsCrossed, shortText, said, saidAt, worded, badText, verdict, ownFault, firstNumber, valueAt}
 use Rattle.lists.proofs.Parts.{neither}
 use Rattle.element.proofs.Gathers.{five-is, bad-is, not-carried-is, given-is, spelled-is}
 use Rattle.element.proofs.Required.{lacksBy, lacks-is}
 use Rattle.element.proofs.Texts.{short-law, stray-law}
-use Rattle.element.proofs.Tags.{gathers, spells}
-use Rattle.lists.specs.Lists.{any}
+use Rattle.element.proofs.Tags.{placed-law, spells}
+use Rattle.lists.specs.Lists.{any, Every}
 
 -- ---- the faults of an element
-join : (a b c d : Bool) → (a || b || c || d) ≡ (a || (b || (c || d)))
-join true b c d = refl
-join false true c d = refl
-join false false c d = refl
-
 first-at : (n p : ℕ) (b : Bool) (fs : List Fault) → firstNumber (n at p if b ++ fs) ≡ cond b n (firstNumber fs)
 unfolding firstNumber
 first-at n p true fs = refl
 first-at n p false fs = refl
-
-last-at : (n p : ℕ) (b : Bool) → firstNumber (n at p if b) ≡ cond b n 0
-unfolding firstNumber
-last-at n p true = refl
-last-at n p false = refl
 
 abbrev badIn : Known → Bool
 badIn k = any (λ a. isBad (worthBy (rulesOf (k .name)) a)) (k .attributes)
@@ -53,7 +43,7 @@ barredIn k = any (λ a. isNotCarried (worthBy (rulesOf (k .name)) a)) (k .attrib
 first-is : (k : Known) → oneOf (k .parent .barred) (k .name) ≡ false
     → firstNumber (ownFaults k)
     ≡ cond (tooMany k) 4 (cond (misfit k) 5 (cond (badIn k || crossed k || misworded k) 6 (cond (barredIn k) 7 0)))
-unfolding ownFaults
+unfolding ownFaults firstNumber
 first-is k h =
     let p = k .place in
     let seven = 7 at p if barredIn k in
@@ -62,7 +52,7 @@ first-is k h =
     (first-at 4 p (tooMany k) (5 at p if misfit k ++ six) ∙ ap (cond (tooMany k) 4)
     (first-at 5 p (misfit k) six ∙ ap (cond (misfit k) 5)
     (first-at 6 p (badIn k || crossed k || misworded k) seven
-    ∙ ap (cond (badIn k || crossed k || misworded k) 6) (last-at 7 p (barredIn k)))))
+    ∙ ap (cond (badIn k || crossed k || misworded k) 6) (ap firstNumber (sym (append-nil seven)) ∙ first-at 7 p (barredIn k) []))))
 
 pub over-law : (k : Known) → oneOf (k .parent .barred) (k .name) ≡ false → tooMany k ≡ true → firstNumber (ownFaults k) ≡ 4
 over-law k h t = first-is k h
@@ -72,52 +62,36 @@ pub barred-law : (k : Known) → oneOf (k .parent .barred) (k .name) ≡ true �
 unfolding ownFaults firstNumber
 barred-law k h = rw h
 
--- every fault is at the element
-data All (P : Fault → Type 0) : List Fault → Type 0 where
-  none : All P []
-  more : {x : Fault} {l : List Fault} → P x → All P l → All P (x ∷ l)
-
-all-both : (P : Fault → Type 0) (l m : List Fault) → All P l → All P m → All P (l ++ m)
-all-both P l m All.none y = y
-all-both P (x ∷ l) m (All.more z w) y = All.more z (all-both P l m w y)
-
-all-if : (P : Fault → Type 0) (n p : ℕ) (b : Bool) → P (record { number = n; place = p }) → All P (n at p if b)
-all-if P n p true z = All.more z All.none
-all-if P n p false z = All.none
-
-all-cond : (P : Fault → Type 0) (b : Bool) (l m : List Fault) → All P l → All P m → All P (cond b l m)
-all-cond P true l m y z = y
-all-cond P false l m y z = z
-
--- a fault of the element, which has a number
+-- every fault is at the element, and has a number
 abbrev Own : Known → Fault → Type 0
 Own k x = (x .place ≡ k .place) × (x .number ≡ 0 → ⊥)
 
-all-own : (k : Known) → All (Own k) (ownFaults k)
-unfolding ownFaults
-all-own k =
-    all-cond (Own k) (oneOf (k .parent .barred) (k .name)) _ _ (all-if (Own k) 7 (k .place) true (refl, λ e. omega arith))
-    (all-both (Own k) _ _ (all-if (Own k) 4 (k .place) (tooMany k) (refl, λ e. omega arith))
-    (all-both (Own k) _ _ (all-if (Own k) 5 (k .place) (misfit k) (refl, λ e. omega arith))
-    (all-both (Own k) _ _ (all-if (Own k) 6 (k .place) (badIn k || crossed k || misworded k) (refl, λ e. omega arith))
-    (all-if (Own k) 7 (k .place) (barredIn k) (refl, λ e. omega arith)))))
+module _ (k : Known) where
+  own-if : (n : ℕ) (b : Bool) (l : List Fault) → (n ≡ 0 → ⊥) → Every (Own k) l → Every (Own k) (n at k .place if b ++ l)
+  unfolding Every
+  own-if n true l h y = ((refl, h), y)
+  own-if n false l h y = y
 
-head-own : (k : Known) (l : List Fault) → All (Own k) l → (x : Fault) (fs : List Fault) → l ≡ x ∷ fs → Own k x
-head-own k l y x fs e = by-all (subst (All (Own k)) e y)
-  where
-    by-all : All (Own k) (x ∷ fs) → Own k x
-    by-all (All.more z w) = z
+  all-own : Every (Own k) (ownFaults k)
+  unfolding ownFaults Every
+  all-own =
+      by-cases (oneOf (k .parent .barred) (k .name)) (λ t. rw t ((refl, λ e. omega arith), tt))
+      (λ t. rw (t, ← append-nil (7 at k .place if barredIn k))
+      (own-if 4 (tooMany k) _ (λ e. omega arith)
+      (own-if 5 (misfit k) _ (λ e. omega arith)
+      (own-if 6 (badIn k || crossed k || misworded k) _ (λ e. omega arith) (own-if 7 (barredIn k) [] (λ e. omega arith) tt)))))
 
-pub fault-place : (k : Known) (x : Fault) (fs : List Fault) → ownFaults k ≡ x ∷ fs → x .place ≡ k .place
-fault-place k x fs e = (head-own k (ownFaults k) (all-own k) x fs e) .0
+  pub fault-place : (x : Fault) (fs : List Fault) → ownFaults k ≡ x ∷ fs → x .place ≡ k .place
+  unfolding Every
+  fault-place x fs e = (subst (Every (Own k)) e all-own) .0 .0
 
-pub no-fault : (k : Known) → firstNumber (ownFaults k) ≡ 0 → ownFaults k ≡ []
-unfolding firstNumber
-no-fault k e = by-all (ownFaults k) (all-own k) e
-  where
-    by-all : (l : List Fault) → All (Own k) l → firstNumber l ≡ 0 → l ≡ []
-    by-all [] y z = refl
-    by-all (x ∷ l) (All.more y w) z = absurd (y .1 z)
+  pub no-fault : firstNumber (ownFaults k) ≡ 0 → ownFaults k ≡ []
+  unfolding firstNumber Every
+  no-fault e = by-all (ownFaults k) all-own e
+    where
+      by-all : (l : List Fault) → Every (Own k) l → firstNumber l ≡ 0 → l ≡ []
+      by-all [] y z = refl
+      by-all (x ∷ l) y z = absurd (y .0 .1 z)
 
 -- an element without a fault: no test finds one
 pub record Clean (k : Known) : Type 0 where
@@ -185,7 +159,7 @@ module _ (k : Known) where
       let u = has k "dlc_min" && not (has k "dlc") in
       let v = glean k .five in
       ap (λ (b : Bool). b || lacksBy got rs || o || u) (sym (five-is rs lists (k .attributes)))
-      ∙ (join v (lacksBy got rs) o u ∙ by-cases v (λ t. rw t)
+      ∙ (or-assoc (v || lacksBy got rs) o u ∙ or-assoc v (lacksBy got rs) (o || u) ∙ by-cases v (λ t. rw t)
       (λ t.
       ap (λ (b : Bool). v || (b || (o || u))) (lacks-is rs lists got (glean k .has) (given-is rs lists (k .attributes) t))
       ∙ ap (λ (b : Bool). v || (lacksRequired rs (glean k .has) || b)) (sym (odd-is t))))
@@ -217,19 +191,19 @@ module _ (k : Known) where
 -- ---- an element that stands in a file
 module _ (f : List ℕ) (d i p : ℕ) (n : List ℕ) (l : List Attribute) (its : Items) (e : ℕ) (y : ElementAt f (suc d) i (node p n l its) e)
   where
+    placed-are : map (spelt f) (placedBehind f (walk.nameAt f i .to)) ≡ l
+    placed-are = placed-law f d its e (suc (length f)) (walk.nameAt f i .to) l (element-law f d i (node p n l its) e y .2) (omega arith)
+
     -- what is gathered from its start tag is gathered from the list of its attributes
     pub gather-law : (rs : List Rule) → gatheredAt rs f i ≡ gatheredList rs l nothingGathered
     unfolding gatheredAt
-    gather-law rs =
-        let z = element-law f d i (node p n l its) e y in
-        gathers rs f d its e (suc (length f)) (walk.nameAt f i .to) l nothingGathered (z .2) (omega arith)
+    gather-law rs = ap (λ (m : List Attribute). gatheredList rs m nothingGathered) placed-are
 
     -- the value of an attribute, where it is given; that the part lies in the file is `value-bounds`
     pub spelled-law : (m : List ℕ) → given m l ≡ true → slice (valueAt m f i .from) (valueAt m f i .to) f ≡ givenValue m l
     unfolding valueAt
     spelled-law m t =
-        let z = element-law f d i (node p n l its) e y in
-        spells m f d its e (suc (length f)) (walk.nameAt f i .to) l (z .2) (omega arith) t
+        spells m f (placedBehind f (walk.nameAt f i .to)) (ap (given m) placed-are ∙ t) ∙ ap (givenValue m) placed-are
 
 -- is the text t, or stray text, wrong in the element n
 abbrev wording : List ℕ → List ℕ → Bool → Bool
@@ -237,11 +211,10 @@ wording n t s =
     cond (same n (bytes "VERSION")) (not (same t (bytes "2.0")))
     (cond (same n (bytes "CHANNEL")) (isBad (worthOf (0 to 4) t)) (not (same n (bytes "EXPRESSION")) && s))
 
-wrong : (v c e p q s : Bool) → cond (v || c || e) (cond v p (cond c q false)) s ≡ cond v p (cond c q (not e && s))
-wrong true c e p q s = refl
-wrong false true e p q s = refl
-wrong false false true p q s = refl
-wrong false false false p q s = refl
+wrong : (v c e p q s : Bool) → (cond v p (cond c q false) || (not (v || c || e) && s)) ≡ cond v p (cond c q (not e && s))
+wrong true c e p q s = or-false p
+wrong false true e p q s = or-false q
+wrong false false e p q s = refl
 
 -- a known element that stands in a file
 module _ (k : Known) (f : List ℕ) (d e : ℕ) (y : ElementAt f (suc d) (k .place) (node (k .place) (k .name) (k .attributes) (k .items)) e)

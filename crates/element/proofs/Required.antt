@@ -1,48 +1,22 @@
 -- Which required attributes lack, from the numbers that are there.
-use Prim.Native.Nat.{ℕ, _^_, _<_}
+use Prim.Native.Nat.{ℕ, _<_}
 use native.Mathlib.Omega.{arith}
 use mathlib.Core.Path.{_≡_, refl, sym, ap, _∙_}
-use mathlib.Core.List.{List, [], _∷_, map}
-use mathlib.Core.Bool.{Bool, true, false, not, _&&_, _||_, or-true, true≢false, Bool·not-not}
-use lib.Bits.{bitAnd}
-use lib.Dec.{eqb}
-use lib.ListN.{getD, drop}
+use mathlib.Core.List.{List, [], _∷_}
+use mathlib.Core.Bool.{Bool, true, false, not, _&&_, true≢false}
 use borrow.Author.Tests.{not-true}
 use Rattle.text.specs.Texts.{bytes, same}
 use Rattle.text.proofs.Equal.{same-self, same-equal}
 use Rattle.lists.specs.Lists.{any}
-use Rattle.lists.specs.BitsCode.{upto, hasBit, Marks}
+use Rattle.lists.specs.BitsCode.{upto, hasBit}
 use Rattle.lists.proofs.Cases.{by-cases, le-or-lt}
-use Rattle.lists.proofs.Parts.{and-left, and-right}
-use Rattle.lists.proofs.BitLaws.{any-upto-found, any-upto-back, all-in}
+use Rattle.lists.proofs.Parts.{and-left, and-right, or-second, agree}
+use Rattle.lists.proofs.BitLaws.{any-upto-found, any-upto-back}
 use Rattle.schema.specs.Schema.{Rule, oneOf}
 use Rattle.schema.specs.SchemaCode.{attributes, attributeCount, attributeName, attributeOf, knows, demands}
 use Rattle.schema.proofs.Laws.{Listed, number-low, number-back, number-own}
 use Rattle.schema.proofs.Tables.{past-last}
 use Rattle.element.specs.ElementCode.{lacksRequired}
-
--- ---- by the sets of numbers
-any-marked : (f g q : ℕ → Bool) (l : List ℕ) → map f l ≡ map g l → any (λ k. f k && q k) l ≡ any (λ k. g k && q k) l
-unfolding any
-any-marked f g q [] e = refl
-any-marked f g q (k ∷ l) e =
-    rw (ap (λ (s : List Bool). getD s 0 false) e, any-marked f g q l (ap (drop 1) e))
-
-pub lacks-marked : (rs : List Rule) (h marks : ℕ) → marks < 2 ^ 64 → Marks 64 (λ a. demands rs (attributeName a)) marks
-    → (b : Bool) → b ≡ eqb (bitAnd h marks) marks → not b ≡ lacksRequired rs h
-unfolding lacksRequired
-lacks-marked rs h marks low w b e =
-    ap not (e ∙ all-in h marks 64 low)
-    ∙ (Bool·not-not _ ∙ any-marked (hasBit marks) (λ a. demands rs (attributeName a)) (λ a. not (hasBit h a)) (upto 64) w)
-
--- ---- by the rules
-agree : (t u : Bool) → (t ≡ true → u ≡ true) → (u ≡ true → t ≡ true) → t ≡ u
-agree true u f g = sym (f refl)
-agree false true f g = g refl
-agree false false f g = refl
-
-or-second : (t u : Bool) → u ≡ true → (t || u) ≡ true
-or-second t u e = rw e (or-true t)
 
 -- a rule requires its attribute, which is not there
 abbrev pub lacksBy : (List ℕ → Bool) → List Rule → Bool
@@ -59,7 +33,7 @@ module _ (got : List ℕ → Bool) where
       (λ t.
       let w = demand-found rs (rw t at e) in (w .0, or-second (r .required && same (w .0) n) (demands rs (w .0)) (w .1), w .2))
 
-  demand-back : (rs : List Rule) (n : List ℕ) → demands rs n ≡ true → got n ≡ false → lacksBy got rs ≡ true
+  pub demand-back : (rs : List Rule) (n : List ℕ) → demands rs n ≡ true → got n ≡ false → lacksBy got rs ≡ true
   unfolding any demands
   demand-back [] n d g = absurd (true≢false (sym d))
   demand-back (r ∷ rs) n d g =

@@ -1,6 +1,6 @@
 -- Every number of an element without faults is that of a whole value, or of its whole text.
 use Prim.Native.Nat.{ℕ}
-use mathlib.Core.Path.{_≡_, refl, sym, ap, subst, _∙_}
+use mathlib.Core.Path.{_≡_, refl, sym, ap, _∙_}
 use mathlib.Core.Logic.{_⊎_, inl, inr}
 use mathlib.Core.List.{List, [], _∷_}
 use mathlib.Core.Bool.{Bool, true, false, not, _&&_, true≢false}
@@ -14,29 +14,19 @@ use Rattle.lists.proofs.Parts.{and-left, and-right, neither}
 use Rattle.values.specs.declared.Number.{Number}
 use Rattle.values.specs.declared.Number.the-variants.{Value, Nothing}
 use Rattle.values.specs.declared.Sort.{Sort}
-use Rattle.values.specs.declared.Sort.the-variants.{Numeric, Timeout, YesNo, Protocol, TriggerName, Unread, Flexible}
+use Rattle.values.specs.declared.Sort.the-variants.{Numeric, Timeout}
 use Rattle.values.specs.Values.{ranged, worthOf}
 use Rattle.values.specs.Numbers.{IsNumber}
 use Rattle.values.specs.NumbersCode.{numberSpelt}
 use Rattle.values.proofs.Exact.{number-exactly}
 use Rattle.shape.specs.Shape.{Attribute}
-use Rattle.schema.specs.Schema.{Rule, _to_, rulesOf}
+use Rattle.schema.specs.Schema.{Rule, rulesOf}
 use Rattle.schema.specs.SchemaCode.{knows, apart}
 use Rattle.schema.proofs.Laws.{knows-here, knows-later, rules-distinct}
-use Rattle.file_rules.specs.Element.{Known, worthBy, isBad, isNotCarried, goodOf, givenValue, valueOf, given, textOf, channelOf, misworded, ReadsWhole}
+use Rattle.file_rules.specs.Element.{Known, worthBy, isBad, isNotCarried, goodOf, givenValue, given, textOf, channelOf, misworded, ReadsWhole}
 use Rattle.element.proofs.Laws.{Clean}
 
 -- ---- a value that is good
--- where the sort asks for a number, v is that of the whole value s
-unfoldable WholeBy : Sort → List ℕ → ℕ → Type 0
-WholeBy (Numeric lo hi most) s v = IsNumber s v
-WholeBy Timeout s v = (same s (bytes "-1") ≡ true) ⊎ IsNumber s v
-WholeBy (YesNo most) s v = Unit {0}
-WholeBy Protocol s v = Unit {0}
-WholeBy TriggerName s v = Unit {0}
-WholeBy Unread s v = Unit {0}
-WholeBy Flexible s v = Unit {0}
-
 ranged-good : (lo hi most : ℕ) (n : Number) → isBad (ranged lo hi most n) ≡ false → isNotCarried (ranged lo hi most n) ≡ false
     → n ≡ Value (goodOf (ranged lo hi most n))
 ranged-good lo hi most Nothing b c = absurd (true≢false b)
@@ -45,17 +35,19 @@ ranged-good lo hi most (Value v) b c =
     (λ t. by-cases (leb v most) (λ u. rw (t, u)) (λ u. absurd (true≢false (rw (t, u) at c))))
     (λ t. absurd (true≢false (rw t at b)))
 
-good-whole : (q : Sort) (s : List ℕ) → isBad (worthOf q s) ≡ false → isNotCarried (worthOf q s) ≡ false → WholeBy q s (goodOf (worthOf q s))
-unfolding worthOf WholeBy
-good-whole (Numeric lo hi most) s b c = number-exactly s _ .0 (ranged-good lo hi most (numberSpelt s) b c)
-good-whole Timeout s b c =
-    by-cases (same s (bytes "-1")) inl
-    (λ t. inr (rw t (number-exactly s _ .0 (ranged-good 0 1000000000 1000000000 (numberSpelt s) (rw t at b) (rw t at c)))))
-good-whole (YesNo most) s b c = tt
-good-whole Protocol s b c = tt
-good-whole TriggerName s b c = tt
-good-whole Unread s b c = tt
-good-whole Flexible s b c = tt
+-- where the sort asks for a number, it is that of the whole value
+module _ (s : List ℕ) where
+  good-number : (lo hi most : ℕ) → isBad (worthOf (Numeric lo hi most) s) ≡ false → isNotCarried (worthOf (Numeric lo hi most) s) ≡ false
+      → IsNumber s (goodOf (worthOf (Numeric lo hi most) s))
+  unfolding worthOf
+  good-number lo hi most b c = number-exactly s _ .0 (ranged-good lo hi most (numberSpelt s) b c)
+
+  good-timeout : isBad (worthOf Timeout s) ≡ false → isNotCarried (worthOf Timeout s) ≡ false
+      → (same s (bytes "-1") ≡ true) ⊎ IsNumber s (goodOf (worthOf Timeout s))
+  unfolding worthOf
+  good-timeout b c =
+      by-cases (same s (bytes "-1")) inl
+      (λ t. inr (rw t (number-exactly s _ .0 (ranged-good 0 1000000000 1000000000 (numberSpelt s) (rw t at b) (rw t at c)))))
 
 -- ---- the attributes that are given
 given-fails : (p : Attribute → Bool) (n : List ℕ) (l : List Attribute) → any p l ≡ false → given n l ≡ true
@@ -90,21 +82,19 @@ every-own P (r ∷ rs) a f =
     )
 
 pub whole-values : (k : Known) → Clean k → Every (ReadsWhole k) (rulesOf (k .name))
-unfolding WholeBy
 whole-values k c =
     let rs = rulesOf (k .name) in
     every-own (ReadsWhole k) rs (rules-distinct (k .name))
     (λ r y g.
     let n = bytes (r .name) in
     let s = givenValue n (k .attributes) in
-    let v = valueOf k (r .name) in
-    let w : WholeBy (r .sort) s v =
-    rw (y .1 s)
-    (good-whole (r .sort) s (rw (y .1 s) at (given-fails (λ a. isBad (worthBy rs a)) n (k .attributes) (c .good) g))
-    (rw (y .1 s) at (given-fails (λ a. isNotCarried (worthBy rs a)) n (k .attributes) (c .carried) g))) in
+    let bad = given-fails (λ a. isBad (worthBy rs a)) n (k .attributes) (c .good) g in
+    let barred = given-fails (λ a. isNotCarried (worthBy rs a)) n (k .attributes) (c .carried) g in
+    let asked : (q : Sort) → r .sort ≡ q → worthBy rs (record { name = n; value = s }) ≡ worthOf q s =
+    λ q e. y .1 s ∙ ap (λ (z : Sort). worthOf z s) e in
     record {
-      number = λ lo hi most e. subst (λ (q : Sort). WholeBy q s v) e w;
-      timeout = λ e. subst (λ (q : Sort). WholeBy q s v) e w;
+      number = λ lo hi most e. let w = asked (Numeric lo hi most) e in rw w (good-number s lo hi most (rw w at bad) (rw w at barred));
+      timeout = λ e. let w = asked Timeout e in rw w (good-timeout s (rw w at bad) (rw w at barred));
     })
 
 -- ---- the text of a CHANNEL
@@ -114,7 +104,7 @@ ranged-carried lo hi (Value v) =
     by-cases (leb lo v && leb v hi) (λ t. rw (t, and-right (leb lo v) (leb v hi) t)) (λ t. rw t)
 
 pub whole-channel : (k : Known) → Clean k → same (k .name) (bytes "CHANNEL") ≡ true → IsNumber (textOf k) (goodOf (channelOf k))
-unfolding misworded worthOf WholeBy bytes same
+unfolding misworded worthOf bytes same
 whole-channel k c t =
-    good-whole (0 to 4) (textOf k) (rw (same-equal (k .name) (bytes "CHANNEL") t) at (c .words))
+    good-number (textOf k) 0 4 4 (rw (same-equal (k .name) (bytes "CHANNEL") t) at (c .words))
     (ranged-carried 0 4 (numberSpelt (textOf k)))

@@ -1,7 +1,7 @@
 -- What the functions answer, for every input. Code-shaped; proofs/Laws.antt ties it to the definitions. Nothing here has to be believed.
 use Prim.Native.Nat.{ℕ, zero, suc, _+_}
 use Prim.Native.String.{String}
-use mathlib.Core.List.{List, [], _∷_}
+use mathlib.Core.List.{List, [], _∷_, map}
 use mathlib.Core.Bool.{Bool, true, false, not, cond, _&&_, _||_}
 use lib.Dec.{ltb, eqb}
 use lib.ListN.{length, getD, replicate, set, take}
@@ -50,27 +50,40 @@ judged rs g a =
     cond (knows rs (a .name))
     (cond (hasBit (g .has) (attributeOf (a .name))) (unfitted g) (putWorth g (attributeOf (a .name)) (worthBy rs a))) (unfitted g)
 
-unfoldable pub gatherFrom : List Rule → List ℕ → ℕ → ℕ → Gathered → Gathered
-gatherFrom rs f zero j g = g
-gatherFrom rs f (suc n) j g =
-    elim (walk.partAt f j) [
-      | TagPart.Attribute a e c k ↦ gatherFrom rs f n (k + 1) (judged rs g (record { name = slice a e f; value = slice c k f }))
-      | TagPart.Open o ↦ g
-      | TagPart.Empty e ↦ g
-      | TagPart.Broken ↦ g
-    ]
-
--- the attributes behind a name that ends at j, and of the element at i, which has these rules
-abbrev pub gatheredBehind : List Rule → List ℕ → ℕ → Gathered
-gatheredBehind rs f j = gatherFrom rs f (suc (length f)) j nothingGathered
-
-unfoldable pub gatheredAt : List Rule → List ℕ → ℕ → Gathered
-gatheredAt rs f i = gatheredBehind rs f (walk.nameAt f i .to)
-
--- the same of a list of attributes
 unfoldable pub gatheredList : List Rule → List Attribute → Gathered → Gathered
 gatheredList rs [] g = g
 gatheredList rs (a ∷ l) g = gatheredList rs l (judged rs g a)
+
+-- an attribute as it stands in a file, and those from j on; n is more than there can be
+pub record Placed : Type 0 where
+  pub name : Part
+  pub value : Part
+
+abbrev pub placed : ℕ → ℕ → ℕ → ℕ → Placed
+placed a e c k = record { name = record { from = a; to = e }; value = record { from = c; to = k } }
+
+abbrev pub spelt : List ℕ → Placed → Attribute
+spelt f p = record { name = slice (p .name .from) (p .name .to) f; value = slice (p .value .from) (p .value .to) f }
+
+unfoldable pub placedFrom : List ℕ → ℕ → ℕ → List Placed
+placedFrom f zero j = []
+placedFrom f (suc n) j =
+    elim (walk.partAt f j) [
+      | TagPart.Attribute a e c k ↦ placed a e c k ∷ placedFrom f n (k + 1)
+      | TagPart.Open o ↦ []
+      | TagPart.Empty e ↦ []
+      | TagPart.Broken ↦ []
+    ]
+
+abbrev pub placedBehind : List ℕ → ℕ → List Placed
+placedBehind f j = placedFrom f (suc (length f)) j
+
+-- the attributes behind a name that ends at j, and of the element at i, which has these rules
+abbrev pub gatheredBehind : List Rule → List ℕ → ℕ → Gathered
+gatheredBehind rs f j = gatheredList rs (map (spelt f) (placedBehind f j)) nothingGathered
+
+unfoldable pub gatheredAt : List Rule → List ℕ → ℕ → Gathered
+gatheredAt rs f i = gatheredBehind rs f (walk.nameAt f i .to)
 
 -- an attribute by its name
 abbrev pub flagOf : ℕ → String → Bool
@@ -126,9 +139,9 @@ saidAt kind f i = said kind (shortText f i)
 unfoldable pub worded : ℕ → Bool
 worded kind = isKind kind "VERSION" || isKind kind "CHANNEL" || isKind kind "EXPRESSION"
 
--- a text t is bad, if it is misspelt where it is read
+-- a text t is bad, if it is misspelt where it is read, and else if it is there
 abbrev pub badIn : ℕ → Bool → List ℕ → Bool
-badIn kind misspelt t = cond (worded kind) misspelt (walk.stray t)
+badIn kind misspelt t = misspelt || (not (worded kind) && walk.stray t)
 
 abbrev pub badText : ℕ → List ℕ → ℕ → Bool
 badText kind f i = badIn kind (saidAt kind f i .misspelt) (walk.textAt f i)
@@ -150,16 +163,10 @@ unfoldable pub firstNumber : List Fault → ℕ
 firstNumber [] = 0
 firstNumber (x ∷ l) = x .number
 
--- the value of the first attribute n from j on, as a part of the file; nothing at 0 if there is none
-unfoldable pub valueFrom : List ℕ → List ℕ → ℕ → ℕ → Part
-valueFrom n f zero j = record { from = 0; to = 0 }
-valueFrom n f (suc m) j =
-    elim (walk.partAt f j) [
-      | TagPart.Attribute a e c k ↦ elim (same (slice a e f) n) [ true ↦ record { from = c; to = k } | false ↦ valueFrom n f m (k + 1) ]
-      | TagPart.Open o ↦ record { from = 0; to = 0 }
-      | TagPart.Empty e ↦ record { from = 0; to = 0 }
-      | TagPart.Broken ↦ record { from = 0; to = 0 }
-    ]
+-- the value of the first attribute n, as a part of the file; nothing at 0 if there is none
+unfoldable pub valueIn : List ℕ → List ℕ → List Placed → Part
+valueIn n f [] = record { from = 0; to = 0 }
+valueIn n f (p ∷ ps) = cond (same (spelt f p .name) n) (p .value) (valueIn n f ps)
 
 unfoldable pub valueAt : List ℕ → List ℕ → ℕ → Part
-valueAt n f i = valueFrom n f (suc (length f)) (walk.nameAt f i .to)
+valueAt n f i = valueIn n f (placedBehind f (walk.nameAt f i .to))

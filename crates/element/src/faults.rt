@@ -3,7 +3,7 @@
 // Promises: each answer is the function of the bytes that specs/ElementCode.antt gives, for every input.
 ghost use mathlib.Core.Path.{_≡_};
 ghost use Rattle.walk.specs.WalkCode.{textIn};
-ghost use Rattle.element.specs.ElementCode.{rulesFor, lacksRequired, unpaired, lacking, boundsCrossed, worded, badIn, verdict};
+ghost use Rattle.element.specs.ElementCode.{rulesFor, lacking, boundsCrossed, worded, badIn, verdict};
 use crate::Gathered;
 use lists::bits;
 use schema::attributes;
@@ -21,31 +21,14 @@ use walk::texts;
 
 const LAST_STANDARD: u32 = 2047;
 
-// Does an attribute lack that an element of the kind must have?
-fn lacks_required(kind: usize, has: u64) -> bool
-    ensures { λ r. ⌜ r ≡ lacksRequired (rulesFor kind) has ⌝ }
-{
-    let musts = attributes::musts_of(kind);
-    !bits::has_all(has, musts)
-}
-
-// Is one of dlc and dlc_min there without the other?
-fn is_unpaired(has: u64) -> bool
-    ensures { λ r. ⌜ r ≡ unpaired has ⌝ }
-{
-    let dlc = bits::has_bit(has, DLC);
-    let least = bits::has_bit(has, DLC_MIN);
-    (dlc & !least) | (least & !dlc)
-}
-
-// Does a required attribute lack, or one of a pair?
+// Does a required attribute lack, or one of dlc and dlc_min?
 fn lacks(kind: usize, has: u64) -> bool
     ensures { λ r. ⌜ r ≡ lacking (rulesFor kind) has ⌝ }
 {
-    if lacks_required(kind, has) {
-        return true;
-    }
-    is_unpaired(has)
+    let musts = attributes::musts_of(kind);
+    let dlc = bits::has_bit(has, DLC);
+    let least = bits::has_bit(has, DLC_MIN);
+    !bits::has_all(has, musts) | ((dlc & !least) | (least & !dlc))
 }
 
 // Is an identifier too large, or a lower bound above its upper?
@@ -70,15 +53,12 @@ pub fn is_worded(kind: usize) -> bool
     }
 }
 
-// Has an element of the kind a text that it may not have? Where it is read for its value, that is known.
+// Has an element of the kind a text that it may not have? Whether one that is read for its value is misspelt, is known.
 pub fn bad_text(file: &[u8], kind: usize, body: Body, misspelt: bool) -> bool
     ensures { λ r. ⌜ r ≡ badIn kind misspelt (textIn (now (file .entry)) body) ⌝ }
 {
-    if is_worded(kind) {
-        return misspelt;
-    }
     let o = texts::inner_start(file, body);
-    texts::has_text(file, o)
+    misspelt | (!is_worded(kind) & texts::has_text(file, o))
 }
 
 // The first of 5, 6, 7 for a value, by the attributes and whether the text is bad; 0 if there is none.
@@ -87,19 +67,10 @@ pub fn verdict_of(kind: usize, g: Gathered, bad: bool) -> u32
 {
     let has = g.has;
     let values = g.values;
-    if g.five {
+    if g.five | lacks(kind, has) {
         return 5;
     }
-    if lacks(kind, has) {
-        return 5;
-    }
-    if g.six {
-        return BAD_VALUE;
-    }
-    if bounds_crossed(has, values) {
-        return BAD_VALUE;
-    }
-    if bad {
+    if g.six | bounds_crossed(has, values) | bad {
         return BAD_VALUE;
     }
     if g.seven {

@@ -9,7 +9,7 @@ ghost use mathlib.Core.Path.{_≡_};
 ghost use Prim.Native.Nat.{_<_};
 ghost use Rattle.walk.specs.WalkCode.{contentBehind};
 ghost use Rattle.schema.specs.SchemaCode.{attributeCount};
-ghost use Rattle.element.specs.ElementCode.{rulesFor, nothingGathered, putWorth, unfitted, judged, gatheredBehind};
+ghost use Rattle.element.specs.ElementCode.{rulesFor, putWorth, judged, gatheredBehind};
 
 pub mod faults;
 pub mod fields;
@@ -41,19 +41,6 @@ pub struct Tag {
     pub body: Body,
 }
 
-// Before the first attribute.
-fn nothing() -> Gathered
-    ensures { λ r. ⌜ r ≡ nothingGathered ⌝ }
-{
-    Gathered {
-        five: false,
-        six: false,
-        seven: false,
-        has: 0,
-        values: [0; ATTRIBUTES],
-    }
-}
-
 // An attribute by its number.
 fn put(g: Gathered, a: usize, w: Worth) -> Gathered
     requires { ⌜ a < attributeCount ⌝ }
@@ -74,25 +61,15 @@ fn put(g: Gathered, a: usize, w: Worth) -> Gathered
     h
 }
 
-// An attribute that is unknown or repeated.
-fn unfit(g: Gathered) -> Gathered
-    ensures { λ r. ⌜ r ≡ unfitted g ⌝ }
-{
-    let mut h = g;
-    h.five = true;
-    h
-}
-
-// One attribute more, with its value.
+// One attribute more, with its value. One that is unknown or repeated does not fit.
 fn judge(g: Gathered, kind: usize, name: &[u8], text: &[u8]) -> Gathered
     ensures { λ r. ⌜ r ≡ judged (rulesFor kind) g (record { name = now (name .entry); value = now (text .entry) }) ⌝ }
 {
     let a = attributes::attribute_in(kind, name);
-    if ATTRIBUTES <= a {
-        return unfit(g);
-    }
-    if bits::has_bit(g.has, a) {
-        return unfit(g);
+    if (ATTRIBUTES <= a) | bits::has_bit(g.has, a) {
+        let mut unfit = g;
+        unfit.five = true;
+        return unfit;
     }
     let sort = attributes::sort_of(a);
     let w = sorts::worth_of(sort, text);
@@ -103,7 +80,13 @@ fn judge(g: Gathered, kind: usize, name: &[u8], text: &[u8]) -> Gathered
 pub fn gather(file: &[u8], to: usize, kind: usize) -> Tag
     ensures { λ r. ⌜ (r .gathered ≡ gatheredBehind (rulesFor kind) (now (file .entry)) to) × (r .body ≡ contentBehind (now (file .entry)) to) ⌝ }
 {
-    let mut gathered = nothing();
+    let mut gathered = Gathered {
+        five: false,
+        six: false,
+        seven: false,
+        has: 0,
+        values: [0; ATTRIBUTES],
+    };
     let mut j = to;
     while j < file.len() {
         match tags::part_at(file, j) {

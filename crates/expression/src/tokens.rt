@@ -100,7 +100,7 @@ fn no_tokens() -> Lexed
 }
 
 // The numbers of a text's tokens, where the triggers' names stand in the file from `starts` up to `ends`.
-pub(crate) fn tokenise(text: &[u8], file: &[u8], starts: &[usize], ends: &[usize]) -> Lexed
+pub fn tokenise(text: &[u8], file: &[u8], starts: &[usize], ends: &[usize]) -> Lexed
     ensures { λ r. ⌜ r ≡ lexed (namesIn (now (file .entry)) (now (starts .entry)) (now (ends .entry))) (now (text .entry)) ⌝ }
 {
     let mut tokens = [0u32; MOST];

@@ -232,7 +232,8 @@ module _ (x : Node) (e : elementFaults x ≡ []) (h : tableFaults (knownElements
   readies =
       all-zipped Clean (λ k. (lacks k ≡ false) × (All Low (within k) × Nested (k .name) (within k))) ks cleans
       (all-zipped (λ k. lacks k ≡ false) (λ k. All Low (within k) × Nested (k .name) (within k)) ks mets
-      (all-zipped (λ k. All Low (within k)) (λ k. Nested (k .name) (within k)) ks (all-within Low x lows) (all-inner [] ks (all-nested x e))))
+      (all-zipped (λ k. All Low (within k)) (λ k. Nested (k .name) (within k)) ks (all-within Low x lows)
+      (all-inner [] ks (all-nested x e))))
 
   filters-in : all (filterIn (2 ^ n)) (map filterAs (kept (isIn "FILTERS") ks)) ≡ true
   filters-in =
@@ -245,7 +246,10 @@ module _ (x : Node) (e : elementFaults x ≡ []) (h : tableFaults (knownElements
   pub plain-filters : All Plain (kept (isIn "FILTERS") ks)
   plain-filters =
       all-mapped (λ k. (isIn "FILTERS" k ≡ true) × Ready k) Plain
-      (λ k z. (low-in n 5 (channelsOf k) n-top (channels-low n (within k) (only-channels k (z .0) (z .1 .1 .1 .1)) (z .1 .1 .1 .0)), paired k (z .1 .0 .fits)))
+      (λ k z. (
+        low-in n 5 (channelsOf k) n-top (channels-low n (within k) (only-channels k (z .0) (z .1 .1 .1 .1)) (z .1 .1 .1 .0)),
+        paired k (z .1 .0 .fits),
+      ))
       (kept (isIn "FILTERS") ks)
       (all-kept Ready (isIn "FILTERS") ks readies)
 

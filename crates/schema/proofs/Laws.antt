@@ -2,12 +2,13 @@
 -- for does not depend on the element.
 use Prim.Native.Nat.{ℕ, _≤_, _<_}
 use Prim.Native.String.{String}
+use native.Mathlib.Omega.{arith}
 use mathlib.Core.Path.{_≡_, refl, sym, ap, _∙_}
 use mathlib.Core.List.{List, [], _∷_, map}
-use mathlib.Core.Bool.{true, false, _&&_, _||_, true≢false}
-use lib.Dec.{leb, eqb}
+use mathlib.Core.Bool.{Bool, true, false, _&&_, _||_, true≢false}
+use lib.Dec.{leb, ltb, eqb}
 use lib.ListN.{getD, drop}
-use borrow.Author.Tests.{le-leb, lt-leb, eqb-true, eqb-false}
+use borrow.Author.Tests.{le-leb, lt-leb, le-ltb, eqb-true, eqb-false}
 use Rattle.text.specs.Texts.{bytes, same}
 use Rattle.lists.proofs.Cases.{by-cases, le-or-lt}
 use Rattle.lists.proofs.Parts.{neither}
@@ -19,7 +20,7 @@ use Rattle.schema.specs.Schema.{oneOf, parents, parentIn, under, element
 use Rattle.schema.specs.SchemaCode.{names, attributes, kindCount, attributeCount, nameIn, kindName, attributeName}
 use Rattle.schema.specs.SchemaCode.{positionOf, kindOf, attributeOf, isCarried, isBarred, heldIn, kindUnder}
 use Rattle.schema.specs.SchemaCode.{knows, apart, sortIn, allRules, sortOf}
-use Rattle.lists.specs.BitsCode.{from}
+use Rattle.lists.specs.BitsCode.{from, upto}
 use Rattle.lists.proofs.BitLaws.{everywhere}
 use Rattle.schema.proofs.Tables.{one-back, past-last}
 
@@ -65,8 +66,10 @@ module _ {A : Type 0} (f g : List ℕ → A) (n : List ℕ) where
       by-cases (same n (bytes x)) (λ t. rw (same-equal n (bytes x) t) (ap (λ (l : List A). getD l 0 (f (bytes x))) e))
       (λ t. named xs (ap (drop 1) e) (rw t at o))
 
-module _ {A : Type 0} (f g : Parent → A)
-    (none : f ("" over [] times UpTo 0 bars []) ≡ g ("" over [] times UpTo 0 bars [])) (n : List ℕ) where
+abbrev under-none : Parent
+under-none = "" over [] times UpTo 0 bars []
+
+module _ {A : Type 0} (f g : Parent → A) (none : f under-none ≡ g under-none) (n : List ℕ) where
   each-parent : (ps : List Parent) → map f ps ≡ map g ps → f (parentIn ps n) ≡ g (parentIn ps n)
   unfolding parentIn
   each-parent [] q = none
@@ -76,73 +79,55 @@ module _ {A : Type 0} (f g : Parent → A)
   pub in-every-parent : map f parents ≡ map g parents → f (under n) ≡ g (under n)
   in-every-parent = each-parent parents
 
--- what holds of each of the names under every parent, holds of a name under q
-module _ (q : List ℕ) where
-  in-carried : map (λ x. oneOf (under q .barred) (bytes x)) (under q .carried) ≡ map (λ x. false) (under q .carried)
+-- two functions agree at a name that a parent has, if they do at each of its names in every row of the table
+module _ {A : Type 0} (own : Parent → List String) (f g : Parent → List ℕ → A) (q n : List ℕ) where
+  under-each : map (λ x. f under-none (bytes x)) (own under-none) ≡ map (λ x. g under-none (bytes x)) (own under-none)
+      → map (λ p. map (λ x. f p (bytes x)) (own p)) parents ≡ map (λ p. map (λ x. g p (bytes x)) (own p)) parents
+      → oneOf (own (under q)) n ≡ true → f (under q) n ≡ g (under q) n
+  under-each none e =
+      named (f (under q)) (g (under q)) n (own (under q))
+      (in-every-parent (λ p. map (λ x. f p (bytes x)) (own p)) (λ p. map (λ x. g p (bytes x)) (own p)) none q e)
+
+-- is it carried, is it barred, has it a number
+abbrev says : List ℕ → List Bool
+says n = isCarried n ∷ isBarred n ∷ oneOf names n ∷ []
+
+module _ (q n : List ℕ) where
+  pub carried-not-barred : oneOf (under q .carried) n ≡ true → oneOf (under q .barred) n ≡ false
   unfolding parents any same bytes
-  in-carried =
-      each-parent (λ p. map (λ x. oneOf (p .barred) (bytes x)) (p .carried)) (λ p. map (λ x. false) (p .carried)) refl q parents refl
+  carried-not-barred = under-each (λ p. p .carried) (λ p. oneOf (p .barred)) (λ p m. false) q n refl refl
 
-  all-carried : map (λ x. isCarried (bytes x)) (under q .carried) ≡ map (λ x. true) (under q .carried)
-  unfolding parents isCarried any same bytes
-  all-carried =
-      each-parent (λ p. map (λ x. isCarried (bytes x)) (p .carried)) (λ p. map (λ x. true) (p .carried)) refl q parents refl
+  pub barred-not-carried : oneOf (under q .barred) n ≡ true → oneOf (under q .carried) n ≡ false
+  barred-not-carried b =
+      by-cases (oneOf (under q .carried) n) (λ c. absurd (true≢false (sym b ∙ carried-not-barred c))) (λ c. c)
 
-  all-barred : map (λ x. isBarred (bytes x)) (under q .barred) ≡ map (λ x. true) (under q .barred)
-  unfolding parents isBarred any same bytes
-  all-barred = each-parent (λ p. map (λ x. isBarred (bytes x)) (p .barred)) (λ p. map (λ x. true) (p .barred)) refl q parents refl
+  pub carried-held : oneOf (under q .carried) n ≡ true → heldIn q n ≡ true
+  unfolding heldIn
+  carried-held c = rw c
 
-  none-barred : map (λ x. isBarred (bytes x)) (under q .carried) ≡ map (λ x. false) (under q .carried)
-  unfolding parents isBarred any same bytes
-  none-barred = each-parent (λ p. map (λ x. isBarred (bytes x)) (p .carried)) (λ p. map (λ x. false) (p .carried)) refl q parents refl
+  carried-says : oneOf (under q .carried) n ≡ true → says n ≡ true ∷ false ∷ true ∷ []
+  unfolding parents names isCarried isBarred any same bytes
+  carried-says = under-each (λ p. p .carried) (λ p. says) (λ p m. true ∷ false ∷ true ∷ []) q n refl refl
 
-  none-carried : map (λ x. isCarried (bytes x)) (under q .barred) ≡ map (λ x. false) (under q .barred)
-  unfolding parents isCarried any same bytes
-  none-carried = each-parent (λ p. map (λ x. isCarried (bytes x)) (p .barred)) (λ p. map (λ x. false) (p .barred)) refl q parents refl
+  barred-says : oneOf (under q .barred) n ≡ true → says n ≡ false ∷ true ∷ true ∷ []
+  unfolding parents names isCarried isBarred any same bytes
+  barred-says = under-each (λ p. p .barred) (λ p. says) (λ p m. false ∷ true ∷ true ∷ []) q n refl refl
 
-  named-carried : map (λ x. oneOf names (bytes x)) (under q .carried) ≡ map (λ x. true) (under q .carried)
-  unfolding parents names any same bytes
-  named-carried =
-      each-parent (λ p. map (λ x. oneOf names (bytes x)) (p .carried)) (λ p. map (λ x. true) (p .carried)) refl q parents refl
-
-  named-barred : map (λ x. oneOf names (bytes x)) (under q .barred) ≡ map (λ x. true) (under q .barred)
-  unfolding parents names any same bytes
-  named-barred = each-parent (λ p. map (λ x. oneOf names (bytes x)) (p .barred)) (λ p. map (λ x. true) (p .barred)) refl q parents refl
-
-  module _ (n : List ℕ) where
-    pub carried-not-barred : oneOf (under q .carried) n ≡ true → oneOf (under q .barred) n ≡ false
-    carried-not-barred = named (oneOf (under q .barred)) (λ m. false) n (under q .carried) in-carried
-
-    pub barred-not-carried : oneOf (under q .barred) n ≡ true → oneOf (under q .carried) n ≡ false
-    barred-not-carried b =
-        by-cases (oneOf (under q .carried) n) (λ c. absurd (true≢false (sym b ∙ carried-not-barred c))) (λ c. c)
-
-    pub carried-held : oneOf (under q .carried) n ≡ true → heldIn q n ≡ true
+  module _ (h : heldIn q n ≡ true) where
+    held-says : says n ≡ oneOf (under q .carried) n ∷ oneOf (under q .barred) n ∷ true ∷ []
     unfolding heldIn
-    carried-held c = rw c
+    held-says =
+        by-cases (oneOf (under q .carried) n) (λ t. rw (t, carried-not-barred t) (carried-says t))
+        (λ t. let b = rw t at h in rw (t, b) (barred-says b))
 
-    pub barred-held : oneOf (under q .barred) n ≡ true → heldIn q n ≡ true
-    unfolding heldIn
-    barred-held b = rw (barred-not-carried b, b)
+    pub held-listed : oneOf names n ≡ true
+    held-listed = ap (λ (l : List Bool). getD l 2 false) held-says
 
-    pub held-listed : heldIn q n ≡ true → oneOf names n ≡ true
-    unfolding heldIn
-    held-listed h =
-        by-cases (oneOf (under q .carried) n) (λ t. named (oneOf names) (λ m. true) n (under q .carried) named-carried t)
-        (λ t. named (oneOf names) (λ m. true) n (under q .barred) named-barred (rw t at h))
+    held-carried : isCarried n ≡ oneOf (under q .carried) n
+    held-carried = ap (λ (l : List Bool). getD l 0 false) held-says
 
-    held-carried : heldIn q n ≡ true → isCarried n ≡ oneOf (under q .carried) n
-    unfolding heldIn
-    held-carried h =
-        by-cases (oneOf (under q .carried) n) (λ t. named isCarried (λ m. true) n (under q .carried) all-carried t ∙ sym t)
-        (λ t. named isCarried (λ m. false) n (under q .barred) none-carried (rw t at h) ∙ sym t)
-
-    held-barred : heldIn q n ≡ true → isBarred n ≡ oneOf (under q .barred) n
-    unfolding heldIn
-    held-barred h =
-        by-cases (oneOf (under q .carried) n)
-        (λ t. named isBarred (λ m. false) n (under q .carried) none-barred t ∙ sym (carried-not-barred t))
-        (λ t. named isBarred (λ m. true) n (under q .barred) all-barred (rw t at h) ∙ sym (rw t at h))
+    held-barred : isBarred n ≡ oneOf (under q .barred) n
+    held-barred = ap (λ (l : List Bool). getD l 1 false) held-says
 
 -- the kind of an element n in an element of the kind q: n is its name, and it is carried or barred as n is in q
 module _ (q : ℕ) (n : List ℕ) where
@@ -187,6 +172,24 @@ unfolding names parents isCarried isBarred any same bytes
 known-low k t =
     le-or-lt kindCount k
     (λ h. absurd (true≢false (sym t ∙ sym (past-last names kindCount refl (λ n. isCarried n || isBarred n) false refl k h)))) (λ h. h)
+
+-- a test that holds of the kinds from lo up to hi
+by-range : (p : List ℕ → Bool) (lo hi : ℕ) → hi ≤ kindCount → false ≡ p (bytes "?")
+    → map (λ k. leb lo k && ltb k hi) (upto kindCount) ≡ map (λ k. p (kindName k)) (upto kindCount) → (k : ℕ)
+    → (leb lo k && ltb k hi) ≡ p (kindName k)
+unfolding names
+by-range p lo hi l none e k =
+    le-or-lt kindCount k
+    (λ h. by-cases (leb lo k) (λ t. rw (t, le-ltb k hi (omega arith))) (λ t. rw t) ∙ past-last names kindCount refl p false none k h)
+    (everywhere (λ k. leb lo k && ltb k hi) (λ k. p (kindName k)) kindCount e k)
+
+pub carried-range : (k : ℕ) → (leb 1 k && ltb k 24) ≡ isCarried (kindName k)
+unfolding names nameIn parents isCarried any same bytes from
+carried-range = by-range isCarried 1 24 (omega arith) refl refl
+
+pub barred-range : (k : ℕ) → (leb 24 k && ltb k kindCount) ≡ isBarred (kindName k)
+unfolding names nameIn parents isBarred any same bytes from
+barred-range = by-range isBarred 24 kindCount (omega arith) refl refl
 
 -- a kind is the number of its own name
 pub kind-own : (k : ℕ) → k < kindCount → kindOf (kindName k) ≡ k

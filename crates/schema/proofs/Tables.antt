@@ -6,17 +6,18 @@ use native.Mathlib.Nat.{zero-mul, mul-le-mul-right}
 use native.Mathlib.Numerals.{one-add}
 use mathlib.Core.Path.{_≡_, refl, sym, ap, _∙_}
 use mathlib.Core.List.{List, [], _∷_, map}
-use mathlib.Core.Bool.{Bool, true, false, cond, true≢false}
+use mathlib.Core.Bool.{Bool, true, false, cond, _&&_, true≢false}
 use mathlib.Core.Logic.{inl, inr}
 use lib.Dec.{eqb, leb}
-use lib.ListN.{length, getD, drop, List·getD-eq-default}
+use lib.ListN.{length, getD, take, drop, List·getD-eq-default}
 use types.Run.{OneOf}
 use borrow.Author.Tests.{leb-true, eqb-true}
 use Rattle.text.specs.Texts.{bytes, same}
 use Rattle.lists.proofs.Cases.{by-cases, le-or-lt}
+use Rattle.lists.proofs.Parts.{and-left, and-right}
 use Rattle.text.proofs.Equal.{same-self, same-equal}
 use Rattle.schema.specs.Schema.{oneOf}
-use Rattle.schema.specs.SchemaCode.{nameIn, positionOf, keyOf}
+use Rattle.schema.specs.SchemaCode.{nameIn, positionOf, inRow, startOf, part, keyOf}
 use Rattle.lists.specs.Lists.{any}
 use Rattle.lists.specs.BitsCode.{upto}
 use Rattle.lists.proofs.BitLaws.{everywhere}
@@ -70,9 +71,23 @@ key-some w n a b c x y z = rw (x, y, z)
 pub low-product : (a w : ℕ) → a < 256 → w < 64 → a * w < 16384
 low-product a w h g = let l : a * w ≤ 255 * w = mul-le-mul-right w (omega arith) in omega arith
 
--- every number of a table is at most that of another
-pub at-most : (f g : ℕ → ℕ) (m : ℕ) → map (λ j. leb (f j) (g j)) (upto m) ≡ map (λ j. true) (upto m) → (k : ℕ) → k < m → f k ≤ g k
-at-most f g m e k h = leb-true (f k) (g k) (everywhere (λ j. leb (f j) (g j)) (λ j. true) m e k h)
+-- the names in a row: each stands between its start and the next
+module _ (xs : List String) (m k a e : ℕ) (h : k < m) (x : a ≡ startOf xs k) (y : e ≡ startOf xs (k + 1)) where
+  abbrev rises : ℕ → Bool
+  rises j = leb (startOf xs j) (startOf xs (j + 1)) && leb (startOf xs (j + 1)) (length (inRow xs))
+
+  pub row-bounds : map rises (upto m) ≡ map (λ j. true) (upto m) → (a ≤ e) × (e ≤ length (inRow xs))
+  row-bounds t =
+      let low = leb (startOf xs k) (startOf xs (k + 1)) in
+      let high = leb (startOf xs (k + 1)) (length (inRow xs)) in
+      let b = everywhere rises (λ j. true) m t k h in
+      rw (x, y) (
+        leb-true (startOf xs k) (startOf xs (k + 1)) (and-left low high b),
+        leb-true (startOf xs (k + 1)) (length (inRow xs)) (and-right low high b),
+      )
+
+  pub row-part : map (part xs) (upto m) ≡ map (nameIn xs) (upto m) → take (e - a) (drop a (inRow xs)) ≡ nameIn xs k
+  row-part t = rw (x, y) (everywhere (part xs) (nameIn xs) m t k h)
 
 -- ---- what a `match` tells of a number, in an arm with the keys ks, and in the arm behind arms with the keys kss, the last first
 abbrev isIn : ℕ → List ℕ → Bool

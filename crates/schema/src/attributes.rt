@@ -2,6 +2,8 @@
 //
 // Promises: each answer is that of the paper's table of attributes (specs/Schema.antt), for every number and name.
 ghost use mathlib.Core.Path.{_≡_};
+ghost use mathlib.Core.Bool.{not};
+ghost use lib.Dec.{eqb};
 ghost use Rattle.schema.specs.Schema.{rulesOf};
 ghost use Rattle.schema.specs.SchemaCode.{attributeCount, kindName, attributeName, knows, demands, isRuled, attributeIn, sortOf};
 ghost use Rattle.lists.specs.BitsCode.{Marks};
@@ -121,9 +123,9 @@ pub fn musts_of(kind: usize) -> u64
     }
 }
 
-// The attributes that an element may have.
+// The attributes that an element may have; there are none only if it may have none.
 fn all_of(kind: usize) -> u64
-    ensures { λ r. ⌜ Marks attributeCount (λ a. knows (rulesOf (kindName kind)) (attributeName a)) r ⌝ }
+    ensures { λ r. ⌜ Marks attributeCount (λ a. knows (rulesOf (kindName kind)) (attributeName a)) r × (eqb r 0 ≡ not (isRuled (kindName kind))) ⌝ }
 {
     match kind {
         kinds::MODE => MODES,
@@ -143,18 +145,7 @@ fn all_of(kind: usize) -> u64
 pub fn is_ruled(kind: usize) -> bool
     ensures { λ r. ⌜ r ≡ isRuled (kindName kind) ⌝ }
 {
-    match kind {
-        kinds::MODE => true,
-        kinds::PARAMETERS => true,
-        kinds::TRIGGER_MSG_ID => true,
-        kinds::TRIGGER_MSG_DLC => true,
-        kinds::TRIGGER_MSG_ERROR_FRAME => true,
-        kinds::TRIGGER_STARTUP => true,
-        kinds::STATEMENT => true,
-        kinds::MESSAGE_PASS => true,
-        kinds::MESSAGE_STOP => true,
-        _ => false,
-    }
+    all_of(kind) != 0
 }
 
 // The number of the attribute with that name that an element of the kind may have.

@@ -60,41 +60,14 @@ pub const MESSAGE_STOP: usize = 22;
 
 pub const CHANNEL: usize = 23;
 
+// Those from here on are known, and not carried: the first of each parent.
 pub const PARAMETERS_FD: usize = 24;
 
 pub const TRIGGER_SIGVAL: usize = 25;
 
-pub const TRIGGER_EXTERNAL: usize = 26;
-
-pub const TRIGGER_TIMER: usize = 27;
-
-pub const TRIGGER_DISK_FULL: usize = 28;
-
 pub const ACTION_EXTERNAL_PULSE: usize = 29;
 
-pub const EXTERNAL_PULSE: usize = 30;
-
-pub const ACTION_ACTIVATE_AUTO_TRANSMIT_LIST: usize = 31;
-
-pub const ACTION_DEACTIVATE_AUTO_TRANSMIT_LIST: usize = 32;
-
 pub const SIGNAL_PASS: usize = 33;
-
-pub const SIGNAL_STOP: usize = 34;
-
-pub const FLAG_PASS: usize = 35;
-
-pub const FLAG_STOP: usize = 36;
-
-pub const FLAGS_PASS: usize = 37;
-
-pub const FLAGS_STOP: usize = 38;
-
-pub const MESSAGE_COUNTING_PASS: usize = 39;
-
-pub const SIGNAL_COUNTING_PASS: usize = 40;
-
-pub const FLAG_COUNTING_PASS: usize = 41;
 
 // None of them.
 pub const KINDS: usize = 42;
@@ -134,25 +107,11 @@ const IN_FILTER: u64 = 1 << CHANNEL;
 // Known there, and not carried.
 const NOT_CAN_BUS: u64 = 1 << PARAMETERS_FD;
 
-const NOT_TRIGGERS: u64 = (1 << TRIGGER_SIGVAL)
-    | (1 << TRIGGER_EXTERNAL)
-    | (1 << TRIGGER_TIMER)
-    | (1 << TRIGGER_DISK_FULL);
+const NOT_TRIGGERS: u64 = (1 << ACTION_EXTERNAL_PULSE) - (1 << TRIGGER_SIGVAL);
 
-const NOT_ACTIONS: u64 = (1 << ACTION_EXTERNAL_PULSE)
-    | (1 << EXTERNAL_PULSE)
-    | (1 << ACTION_ACTIVATE_AUTO_TRANSMIT_LIST)
-    | (1 << ACTION_DEACTIVATE_AUTO_TRANSMIT_LIST);
+const NOT_ACTIONS: u64 = (1 << SIGNAL_PASS) - (1 << ACTION_EXTERNAL_PULSE);
 
-const NOT_FILTERS: u64 = (1 << SIGNAL_PASS)
-    | (1 << SIGNAL_STOP)
-    | (1 << FLAG_PASS)
-    | (1 << FLAG_STOP)
-    | (1 << FLAGS_PASS)
-    | (1 << FLAGS_STOP)
-    | (1 << MESSAGE_COUNTING_PASS)
-    | (1 << SIGNAL_COUNTING_PASS)
-    | (1 << FLAG_COUNTING_PASS);
+const NOT_FILTERS: u64 = (1 << KINDS) - (1 << SIGNAL_PASS);
 
 // The elements that an element holds, as a set of kinds.
 pub fn carried_in(kind: usize) -> u64
@@ -215,44 +174,18 @@ pub fn kind_under(parent: usize, name: &[u8]) -> usize
     KINDS
 }
 
-// The kinds that are carried where they may stand.
-const CARRIED: u64 = (1 << PARAMETERS_FD) - (1 << KVASER);
-
-// Those behind them are known only.
-const BARRED: u64 = (1 << KINDS) - (1 << PARAMETERS_FD);
-
-fn all_carried() -> u64
-    ensures { λ r. ⌜ Marks kindCount (λ k. isCarried (kindName k)) r ⌝ }
-{
-    CARRIED
-}
-
-fn all_barred() -> u64
-    ensures { λ r. ⌜ Marks kindCount (λ k. isBarred (kindName k)) r ⌝ }
-{
-    BARRED
-}
-
 // Is an element of the kind carried where it may stand?
 pub fn is_carried(kind: usize) -> bool
     ensures { λ r. ⌜ r ≡ isCarried (kindName kind) ⌝ }
 {
-    if KINDS <= kind {
-        return false;
-    }
-    let all = all_carried();
-    bits::has_bit(all, kind)
+    (KVASER <= kind) & (kind < PARAMETERS_FD)
 }
 
 // Is it known and not carried?
 pub fn is_barred(kind: usize) -> bool
     ensures { λ r. ⌜ r ≡ isBarred (kindName kind) ⌝ }
 {
-    if KINDS <= kind {
-        return false;
-    }
-    let all = all_barred();
-    bits::has_bit(all, kind)
+    (PARAMETERS_FD <= kind) & (kind < KINDS)
 }
 
 // Is an element of the kind one of those that `parent` holds?

@@ -4,7 +4,7 @@ use Prim.Native.String.{String}
 use native.Mathlib.Omega.{arith}
 use mathlib.Core.Path.{_≡_, refl, sym, _∙_, subst}
 use mathlib.Core.List.{List, [], _∷_, _++_, nil≢cons}
-use mathlib.Core.Bool.{Bool, true, false, not, cond, _||_, true≢false}
+use mathlib.Core.Bool.{Bool, true, false, not, cond, true≢false}
 use lib.Dec.{eqb}
 use lib.ListN.{length, length-append}
 use borrow.Author.Tests.{not-false, eqb-false}
@@ -18,11 +18,11 @@ use Rattle.file_rules.specs.Element.{Known, _at_if_, ownFaults}
 use Rattle.lists.proofs.Parts.{neither}
 use Rattle.file_rules.specs.Reading.{is}
 use Rattle.file_rules.specs.Document.{alsoNamed, held, knownIn, knownAt, knownElements, placeOf, unmet, lacks, elementFaults}
-use Rattle.document.proofs.Few.{left, top, Clean, append-none, clean-parts, clean-first, most, sum, Settled, few-inside, few-known}
-use Rattle.document.proofs.Stood.{All, all-append}
+use Rattle.document.proofs.Few.{left, top, Clean, append-none, clean-first, most, sum, Settled, few-inside, few-known}
+use Rattle.document.proofs.Stood.{All}
 use Rattle.file_rules.specs.Tables.{kept, isIn, within, expressionsOf}
 use Rattle.tables.proofs.Wanted.{Formed}
-use Rattle.tables.proofs.Nested.{kept-append}
+use Rattle.tables.proofs.Nested.{all-parts, all-within, kept-append}
 use Rattle.tables.proofs.Entries.{faultless-parts}
 use Rattle.lists.specs.Lists.{any, gathered}
 
@@ -36,8 +36,11 @@ kept-sum p [] = refl
 kept-sum p (k ∷ ks) = let h = kept-sum p ks in by-cases (p (k .name)) (λ t. rw t (omega (arith, h))) (λ t. rw t (omega (arith, h)))
 
 module _ (p : List ℕ → Bool) (settled : Settled (one-if p)) where
-  kept-known : (x : Node) → Clean (knownElements x) → length (kept (λ k. p (k .name)) (knownElements x)) ≤ most (one-if p) 8 []
-  kept-known x c = let a = few-known (one-if p) settled x c in let b = kept-sum p (knownElements x) in omega (arith, a, b)
+  kept-known : (x : Node) → elementFaults x ≡ [] → length (kept (λ k. p (k .name)) (knownElements x)) ≤ most (one-if p) 8 []
+  kept-known x e =
+      let a = few-known (one-if p) settled x (faultless-parts x e .0) in
+      let b = kept-sum p (knownElements x) in
+      omega (arith, a, b)
 
   kept-inside : (i : Items) (q : List ℕ) → Clean (knownIn (under q) [] i)
       → length (kept (λ k. p (k .name)) (knownIn (under q) [] i)) ≤ most (one-if p) 8 q
@@ -53,27 +56,19 @@ called n m = same m (bytes n)
 module _ (x : Node) (e : elementFaults x ≡ []) where
   pub few-triggers : length (kept (isIn "TRIGGERS") (knownElements x)) ≤ 32
   unfolding most left top parentIn parents any bytes same
-  few-triggers =
-      kept-known (among "TRIGGERS") refl x
-      ((faultless-parts x e) .0)
+  few-triggers = kept-known (among "TRIGGERS") refl x e
 
   pub few-filters : length (kept (isIn "FILTERS") (knownElements x)) ≤ 32
   unfolding most left top parentIn parents any bytes same
-  few-filters =
-      kept-known (among "FILTERS") refl x
-      ((faultless-parts x e) .0)
+  few-filters = kept-known (among "FILTERS") refl x e
 
   pub few-statements : length (kept (is "STATEMENT") (knownElements x)) ≤ 16
   unfolding most left top parentIn parents any bytes same
-  few-statements =
-      kept-known (called "STATEMENT") refl x
-      ((faultless-parts x e) .0)
+  few-statements = kept-known (called "STATEMENT") refl x e
 
   pub few-parameters : length (kept (is "PARAMETERS") (knownElements x)) ≤ 5
   unfolding most left top parentIn parents any bytes same
-  few-parameters =
-      kept-known (called "PARAMETERS") refl x
-      ((faultless-parts x e) .0)
+  few-parameters = kept-known (called "PARAMETERS") refl x e
 
 -- ---- known elements that stand together among others
 data Part (ms : List Known) : List Known → Type 0 where
@@ -84,12 +79,8 @@ part-right : (ms ks ns : List Known) → Part ms ns → Part ms (ks ++ ns)
 part-right ms [] ns y = y
 part-right ms (k ∷ ks) ns y = Part.later k (part-right ms ks ns y)
 
-all-first : (p : Known → Type 0) (ks ms : List Known) → All p (ks ++ ms) → All p ks
-all-first p [] ms y = tt
-all-first p (k ∷ ks) ms y = (y .0, all-first p ks ms (y .1))
-
 part-all : (p : Known → Type 0) (ms ks : List Known) → Part ms ks → All p ks → All p ms
-part-all p ms ks (Part.here ls) y = all-first p ms ls y
+part-all p ms ks (Part.here ls) y = all-parts p ms ls y .0
 part-all p ms (m ∷ ks) (Part.later k z) y = part-all p ms ks z (y .1)
 
 part-kept : (p : Known → Bool) (ms ks : List Known) → Part ms ks → length (kept p ms) ≤ length (kept p ks)
@@ -226,37 +217,28 @@ module _ (x : Node) (e : elementFaults x ≡ []) where
       subst (λ ks. 1 ≤ length (kept (is "PARAMETERS") ks)) (sym (r .2)) (parameters-in (r .0) (r .1) (subst (All Met) (r .2) met))
 
 -- ---- in a statement
-mutual
-  unfolding knownIn knownAt
+abbrev Faultless : Known → Type 0
+Faultless k = ownFaults k ≡ []
 
-  clean-in : (i : Items) (q : Parent) (earlier : List (List ℕ)) → Clean (knownIn q earlier i)
-      → All (λ k. Clean (within k)) (knownIn q earlier i)
-  clean-in Items.none q earlier h = tt
-  clean-in (Items.text b i) q earlier h = clean-in i q earlier h
-  clean-in (Items.remark i) q earlier h = clean-in i q earlier h
-  clean-in (Items.child x i) q earlier h =
-      let g = clean-parts (knownAt q earlier x) (knownIn q (alsoNamed q earlier x) i) h in
-      all-append (λ k. Clean (within k)) (knownAt q earlier x) (knownIn q (alsoNamed q earlier x) i) (clean-at x q earlier (g .0))
-      (clean-in i q (alsoNamed q earlier x) (g .1))
+each-clean : (ks : List Known) → Clean ks → All Faultless ks
+each-clean [] c = tt
+each-clean (k ∷ ks) c = let g = clean-first k ks c in (g .0, each-clean ks (g .1))
 
-  clean-at : (x : Node) (q : Parent) (earlier : List (List ℕ)) → Clean (knownAt q earlier x)
-      → All (λ k. Clean (within k)) (knownAt q earlier x)
-  clean-at (node p n l i) q earlier h =
-      let k : Known = record { parent = q; earlier = earlier; place = p; name = n; attributes = l; items = i } in
-      by-cases (oneOf (q .carried) n || oneOf (q .barred) n)
-      (λ c. let g = clean-first k (within k) (rw c at h) in rw c (g .1, clean-in i (under n) [] (g .1)))
-      (λ c. rw c tt)
+all-clean : (ks : List Known) → All Faultless ks → Clean ks
+unfolding gathered
+all-clean [] y = refl
+all-clean (k ∷ ks) y = rw (y .0) (all-clean ks (y .1))
 
 only-one : (ks : List Known) → length ks ≤ 1 → 1 ≤ length ks → (k : Known) × (ks ≡ k ∷ [])
 only-one [] h g = absurd (omega arith)
 only-one (k ∷ []) h g = (k, refl)
 only-one (k ∷ m ∷ ks) h g = absurd (omega arith)
 
-formed : (k : Known) → Clean (within k) → lacks k ≡ false → Formed k
+formed : (k : Known) → All Faultless (within k) → lacks k ≡ false → Formed k
 unfolding most left top parentIn parents any bytes same kept
 formed k c l t =
     let m : k .name ≡ bytes "STATEMENT" = same-equal (k .name) (bytes "STATEMENT") t in
-    let d : Clean (knownIn (under (bytes "STATEMENT")) [] (k .items)) = rw m at c in
+    let d : Clean (knownIn (under (bytes "STATEMENT")) [] (k .items)) = rw m at (all-clean (within k) c) in
     let a = kept-inside (among "ACTIONS") refl (k .items) (bytes "STATEMENT") d in
     let x = kept-inside (called "EXPRESSION") refl (k .items) (bytes "STATEMENT") d in
     let b = once-within k (bytes "EXPRESSION") l (rw m refl) (rw m refl) in
@@ -264,10 +246,10 @@ formed k c l t =
     let z : 1 ≤ length (kept (is "EXPRESSION") (b .0 ∷ within (b .0))) = rw (b .1) (omega arith) in
     (rw m a, only-one (expressionsOf k) (rw m x) (omega (arith, y, z)))
 
-formed-each : (ks : List Known) → All (λ k. Clean (within k)) ks → All (λ k. lacks k ≡ false) ks → All Formed ks
+formed-each : (ks : List Known) → All (λ k. All Faultless (within k)) ks → All (λ k. lacks k ≡ false) ks → All Formed ks
 formed-each [] c l = tt
 formed-each (k ∷ ks) c l = (formed k (c .0) (l .0), formed-each ks (c .1) (l .1))
 
 pub all-formed : (x : Node) → elementFaults x ≡ [] → All Formed (knownElements x)
 all-formed x e = let c = faultless-parts x e in
-    formed-each (knownElements x) (clean-at x (under []) [] (c .0)) (any-none lacks (knownElements x) (c .1))
+    formed-each (knownElements x) (all-within Faultless x (each-clean (knownElements x) (c .0))) (any-none lacks (knownElements x) (c .1))

@@ -34,4 +34,5 @@ fit-each f (k ∷ ks) n s c =
     (record { named = n .0; stood = s .0; clean = g .0 }, fit-each f ks (n .1) (s .1) (g .1))
 
 pub all-fit : (f : List ℕ) (x : Node) → WellShaped f x → elementFaults x ≡ [] → All (Fit f) (knownElements x)
-all-fit f x w e = let c = faultless-parts x e in fit-each f (knownElements x) (all-named [] (knownElements x) (all-nested x e)) (all-stood f x w) (c .0)
+all-fit f x w e =
+    fit-each f (knownElements x) (all-named [] (knownElements x) (all-nested x e)) (all-stood f x w) (faultless-parts x e .0)

@@ -7,8 +7,7 @@ use lib.Dec.{leb, eqb}
 use lib.ListN.{length, getD, length-map}
 use Rattle.text.specs.Texts.{bytes, same}
 use Rattle.lists.proofs.Cases.{by-cases}
-use Rattle.schema.specs.SchemaCode.{attributes, kindName, kindOf}
-use Rattle.schema.proofs.Laws.{Listed}
+use Rattle.schema.specs.SchemaCode.{kindName, kindOf}
 use Rattle.file_rules.specs.Element.{Known, Fault, _at_if_, goodOf, channelOf, valueOf}
 use Rattle.element.specs.ElementCode as element
 use Rattle.file_rules.specs.Reading.{is}
@@ -22,7 +21,8 @@ use Rattle.file_rules.specs.Tables.{kept, isIn, usedNames, gap, channelNamed, c
 use Rattle.tables.specs.TablesCode.{usedFrom, nameFault, firstWhere, busFault, isBeyond, channelFault, orElse, tableFault}
 use Rattle.file_rules.specs.RefusalCode.{refusedAt}
 use Rattle.tables.proofs.Wanted.{Fit, firstOf}
-use Rattle.tables.proofs.Readings.{trigger-ruled, number-is}
+use Rattle.tables.proofs.Readings.{read, trigger-ruled, number-is}
+use Rattle.tables.proofs.Nested.{all-mapped}
 use Rattle.tables.proofs.Tells.{names-law, places-law, HeadHold, head-law}
 use Rattle.lists.specs.Lists.{any, gathered}
 use Rattle.lists.specs.FlagsCode.{lacksFirst}
@@ -59,10 +59,6 @@ unfolding gathered
 gathered-none [] = refl
 gathered-none (k ∷ ks) = gathered-none ks
 
-all-map : (p q : Known → Type 0) → ((k : Known) → p k → q k) → (ks : List Known) → All p ks → All q ks
-all-map p q g [] y = tt
-all-map p q g (k ∷ ks) y = (g k (y .0), all-map p q g ks (y .1))
-
 -- ---- a channel is lacking
 lacks-last : (c : ℕ) (l : List Bool) → lacksFirst (suc c) l ≡ (not (getD l c false) || lacksFirst c l)
 unfolding lacksFirst
@@ -82,10 +78,6 @@ gap-law l cs h zero = refl
 gap-law l cs h (suc n) = lacks-last n l ∙ rw (h n, gap-law l cs h n)
 
 -- ---- the channel that an element names
-listed-channel : Listed (bytes "channel")
-unfolding attributes any same bytes
-listed-channel = refl
-
 module _ (f : List ℕ) (n : ℕ) (k : Known) (y : Fit f k) where
   beyond-trigger : cond (isIn "TRIGGERS" k && not (is "TRIGGER_STARTUP" k)) (leb n (numberIn (entryOf k) "channel")) false
       ≡ any (leb n) (cond (isIn "TRIGGERS" k && not (is "TRIGGER_STARTUP" k)) (valueOf k "channel" ∷ []) [])
@@ -93,7 +85,7 @@ module _ (f : List ℕ) (n : ℕ) (k : Known) (y : Fit f k) where
   beyond-trigger =
       by-cases (isIn "TRIGGERS" k)
       (λ t. by-cases (is "TRIGGER_STARTUP" k) (λ s. rw (t, s) refl)
-      (λ s. rw (t, s, number-is f k y (trigger-ruled k t) "channel" listed-channel) (sym (or-false (leb n (valueOf k "channel"))))))
+      (λ s. rw (t, s, number-is f k y (trigger-ruled k t) "channel" (read .1)) (sym (or-false (leb n (valueOf k "channel"))))))
       (λ t. rw t refl)
 
   beyond-law : isBeyond n (entryOf k) ≡ any (leb n) (channelNamed k)
@@ -106,7 +98,8 @@ module _ (f : List ℕ) (n : ℕ) (k : Known) (y : Fit f k) where
 -- ---- all of them
 module _ (f : List ℕ) (ks : List Known) (y : All (Fit f) ks) where
   name-law : length (kept (isIn "TRIGGERS") ks) ≤ 32 → (rest : List Fault)
-      → firstOf (usedNames [] (kept (isIn "TRIGGERS") ks) ++ rest) ≡ orElse (nameFault f (folded (tellName f) noNames (map entryOf ks))) (firstOf rest)
+      → firstOf (usedNames [] (kept (isIn "TRIGGERS") ks) ++ rest)
+      ≡ orElse (nameFault f (folded (tellName f) noNames (map entryOf ks))) (firstOf rest)
   unfolding nameFault
   name-law h rest =
       let ms = kept (isIn "TRIGGERS") ks in
@@ -131,7 +124,7 @@ module _ (f : List ℕ) (ks : List Known) (y : All (Fit f) ks) where
     bus-by true rest =
         rw (gathered-kept (is "CAN_BUS") ks)
         (first-law (λ e. element.isKind (e .kind) "CAN_BUS") (is "CAN_BUS") rest ks
-        (all-map (Fit f) (λ k. same (kindName (kindOf (k .name))) (bytes "CAN_BUS") ≡ is "CAN_BUS" k)
+        (all-mapped (Fit f) (λ k. same (kindName (kindOf (k .name))) (bytes "CAN_BUS") ≡ is "CAN_BUS" k)
         (λ k z. ap (λ (n : List ℕ). same n (bytes "CAN_BUS")) (z .named)) ks y))
 
     bus-law : (rest : List Fault)
@@ -152,7 +145,7 @@ module _ (f : List ℕ) (ks : List Known) (y : All (Fit f) ks) where
         let b : Known → Bool = λ k. any (leb n) (channelNamed k) in
         rw channels-are
         (ap firstOf (sym (append-nil (gathered (λ k. 10 at k .place if b k) ks)))
-        ∙ (first-law (isBeyond n) b [] ks (all-map (Fit f) (λ k. isBeyond n (entryOf k) ≡ b k) (λ k z. beyond-law f n k z) ks y)
+        ∙ (first-law (isBeyond n) b [] ks (all-mapped (Fit f) (λ k. isBeyond n (entryOf k) ≡ b k) (λ k z. beyond-law f n k z) ks y)
         ∙ or-none (isBeyond n) (map entryOf ks)))
 
 pub fault-law : (f : List ℕ) (ks : List Known) → All (Fit f) ks → length (kept (isIn "TRIGGERS") ks) ≤ 32

@@ -14,9 +14,7 @@ use Rattle.schema.proofs.Tables.{one-back}
 use Rattle.schema.proofs.Laws.{carried-held, held-listed}
 use Rattle.file_rules.specs.Element.{Known}
 use Rattle.file_rules.specs.Document.{alsoNamed, knownIn, knownAt, knownElements}
-use Rattle.element.specs.ElementCode.{firstNumber}
-use Rattle.element.proofs.Laws.{clean-law}
-use Rattle.document.proofs.Few.{Clean, clean-parts, clean-first}
+use Rattle.document.proofs.Few.{Clean, clean-parts, clean-first, own-clean}
 use Rattle.document.proofs.Stood.{All, all-append}
 use Rattle.file_rules.specs.Tables.{kept, within}
 use Rattle.lists.specs.Lists.{any}
@@ -34,7 +32,7 @@ pub data Nested : List ℕ → List Known → Type 0 where
 
 -- an element that is known and not barred is carried
 mutual
-  unfolding knownIn knownAt firstNumber
+  unfolding knownIn knownAt
 
   pub nested-in : (i : Items) (n : List ℕ) (earlier : List (List ℕ)) → Clean (knownIn (under n) earlier i)
       → Nested n (knownIn (under n) earlier i)
@@ -53,8 +51,7 @@ mutual
       by-cases (oneOf (under n .carried) m)
       (λ c. rw c (Nested.next k ks c (nested-in i m [] (clean-first k (knownIn (under m) [] i) (rw c at h) .1)) y))
       (λ c. by-cases (oneOf (under n .barred) m)
-      (λ b. absurd (true≢false (sym b ∙ clean-law k (ap firstNumber ((clean-first k (knownIn (under m) [] i) (rw (c, b) at h)) .0))
-      .barred)))
+      (λ b. absurd (true≢false (sym b ∙ own-clean k (clean-first k (knownIn (under m) [] i) (rw (c, b) at h) .0) .barred)))
       (λ b. rw (c, b) y))
 
 pub nested-known : (x : Node) → Clean (knownElements x) → Nested [] (knownElements x)

@@ -22,16 +22,17 @@ use Rattle.values.specs.Values.{ranged, worthOf}
 use Rattle.values.specs.NumbersCode.{numberSpelt, digits}
 use Rattle.records.specs.declared.Timeout.the-variants.{Forever, Ms}
 use Rattle.records.specs.RecordsCode.{timeoutAt}
-use Rattle.schema.specs.Schema.{oneOf, parents, parentIn, under, elements, rulesIn, rulesOf}
+use Rattle.schema.specs.Schema.{_to_, oneOf, parents, parentIn, under, elements, rulesIn, rulesOf}
 use Rattle.schema.specs.SchemaCode.{attributes, attributeOf, knows, isRuled, sortIn, allRules, sortOf}
 use Rattle.schema.proofs.Laws.{named, Listed, one-sort}
 use Rattle.file_rules.specs.Element.{Known, worthBy, goodOf, givenValue, valueOf, has}
 use Rattle.file_rules.specs.Reading.{is, triggerOf, filterOf}
 use Rattle.file_rules.specs.Tables.{isIn}
-use Rattle.element.specs.ElementCode.{numberOf, flagOf, firstNumber}
+use Rattle.element.specs.ElementCode.{numberOf, flagOf}
 use Rattle.element.proofs.Judged.{worth-by}
 use Rattle.element.proofs.Gathers.{spelled-none}
-use Rattle.element.proofs.Laws.{Clean, clean-law, value-law, has-law}
+use Rattle.element.proofs.Laws.{Clean, value-law, has-law}
+use Rattle.document.proofs.Few.{own-clean}
 use Rattle.document.specs.EntriesCode.{gatheredOf, entryOf, flagIn, numberIn}
 use Rattle.tables.specs.RowsCode.{causeFrom, triggerFrom, filterFrom}
 use Rattle.tables.proofs.Wanted.{Fit}
@@ -43,6 +44,10 @@ ranged-top lo hi most (Value v) =
     by-cases (leb lo v && leb v hi)
     (λ t. by-cases (leb v most) (λ s. rw (t, s) (leb-true v hi (and-right (leb lo v) (leb v hi) t))) (λ s. rw (t, s) (omega arith)))
     (λ t. rw t (omega arith))
+
+pub low-worth : (s : List ℕ) → goodOf (worthOf (0 to 4) s) ≤ 4
+unfolding worthOf
+low-worth s = ranged-top 0 4 4 (numberSpelt s)
 
 -- the word that a timeout is gathered as is that of `-1` exactly if it says so
 timeout-worth : (s : List ℕ)
@@ -59,7 +64,7 @@ timeout-worth s =
 worth-known : (m n v : List ℕ) → knows (rulesOf m) n ≡ true → worthBy (rulesOf m) (record { name = n; value = v }) ≡ worthOf (sortOf n) v
 worth-known m n v k = worth-by (rulesOf m) n v ∙ ap (λ (s : Sort). worthOf s v) (one-sort m n k)
 
--- the attributes of triggers and filters that are read
+-- the attributes that are read
 pub read : Listed (bytes "timeout")
     × Listed (bytes "channel")
     × Listed (bytes "msgid")
@@ -67,8 +72,9 @@ pub read : Listed (bytes "timeout")
     × Listed (bytes "can_ext")
     × Listed (bytes "dlc")
     × Listed (bytes "dlc_min")
+    × Listed (bytes "log_all")
 unfolding attributes any same bytes
-read = (refl, refl, refl, refl, refl, refl, refl)
+read = (refl, refl, refl, refl, refl, refl, refl, refl)
 
 lasting : sortOf (bytes "timeout") ≡ Timeout
 unfolding elements sortIn allRules sortOf same bytes
@@ -87,33 +93,29 @@ unfolding elements sortIn allRules sortOf worthOf numberSpelt digits same bytes
 no-length = refl
 
 -- those that may have attributes
-triggers-ruled : (n : List ℕ) → oneOf (under (bytes "TRIGGERS") .carried) n ≡ true → isRuled n ≡ true
-unfolding parents parentIn elements rulesIn isRuled any same bytes
-triggers-ruled n = named isRuled (λ m. true) n (under (bytes "TRIGGERS") .carried) refl
-
-filters-ruled : (n : List ℕ) → oneOf (under (bytes "FILTERS") .carried) n ≡ true → isRuled n ≡ true
-unfolding parents parentIn elements rulesIn isRuled any same bytes
-filters-ruled n = named isRuled (λ m. true) n (under (bytes "FILTERS") .carried) refl
-
-others : (isRuled (bytes "STATEMENT") ≡ true) × (isRuled (bytes "PARAMETERS") ≡ true) × (isRuled (bytes "MODE") ≡ true)
-unfolding elements rulesIn isRuled any same bytes
-others = (refl, refl, refl)
-
-one-ruled : (x : String) (k : Known) → isRuled (bytes x) ≡ true → is x k ≡ true → isRuled (k .name) ≡ true
-one-ruled x k r t = ap isRuled (same-equal (k .name) (bytes x) t) ∙ r
-
 module _ (k : Known) where
   pub trigger-ruled : isIn "TRIGGERS" k ≡ true → isRuled (k .name) ≡ true
-  trigger-ruled t = triggers-ruled (k .name) t
+  unfolding parents parentIn elements rulesIn isRuled any same bytes
+  trigger-ruled = named isRuled (λ m. true) (k .name) (under (bytes "TRIGGERS") .carried) refl
+
+  filter-ruled : isIn "FILTERS" k ≡ true → isRuled (k .name) ≡ true
+  unfolding parents parentIn elements rulesIn isRuled any same bytes
+  filter-ruled = named isRuled (λ m. true) (k .name) (under (bytes "FILTERS") .carried) refl
+
+  one-ruled : (x : String) → isRuled (bytes x) ≡ true → is x k ≡ true → isRuled (k .name) ≡ true
+  one-ruled x r t = ap isRuled (same-equal (k .name) (bytes x) t) ∙ r
 
   pub statement-ruled : is "STATEMENT" k ≡ true → isRuled (k .name) ≡ true
-  statement-ruled t = one-ruled "STATEMENT" k (others .0) t
+  unfolding elements rulesIn isRuled any same bytes
+  statement-ruled = one-ruled "STATEMENT" refl
 
   pub parameters-ruled : is "PARAMETERS" k ≡ true → isRuled (k .name) ≡ true
-  parameters-ruled t = one-ruled "PARAMETERS" k (others .1) t
+  unfolding elements rulesIn isRuled any same bytes
+  parameters-ruled = one-ruled "PARAMETERS" refl
 
   pub mode-ruled : is "MODE" k ≡ true → isRuled (k .name) ≡ true
-  mode-ruled t = one-ruled "MODE" k (others .2) t
+  unfolding elements rulesIn isRuled any same bytes
+  mode-ruled = one-ruled "MODE" refl
 
   lasts : isIn "TRIGGERS" k ≡ true
       → timeoutAt (valueOf k "timeout")
@@ -143,8 +145,7 @@ module _ (k : Known) where
 -- ---- an element without faults, from its entry
 module _ (f : List ℕ) (k : Known) (y : Fit f k) where
   pub clean : Clean k
-  unfolding firstNumber
-  clean = clean-law k (ap firstNumber (y .clean))
+  clean = own-clean k (y .clean)
 
   module _ (r : isRuled (k .name) ≡ true) (n : String) (l : Listed (bytes n)) where
     pub number-is : numberIn (entryOf k) n ≡ valueOf k n
@@ -156,7 +157,7 @@ module _ (f : List ℕ) (k : Known) (y : Fit f k) where
   pub trigger-is : isIn "TRIGGERS" k ≡ true → triggerFrom (entryOf k) ≡ triggerOf k
   unfolding triggerFrom causeFrom triggerOf
   trigger-is t =
-      let r = triggers-ruled (k .name) t in
+      let r = trigger-ruled k t in
       rw (
         y .named,
         number-is r "timeout" (read .0),
@@ -172,7 +173,7 @@ module _ (f : List ℕ) (k : Known) (y : Fit f k) where
   pub filter-is : isIn "FILTERS" k ≡ true → (channels : ℕ) → filterFrom channels (entryOf k) ≡ filterOf channels k
   unfolding filterFrom filterOf
   filter-is t channels =
-      let r = filters-ruled (k .name) t in
+      let r = filter-ruled k t in
       rw (
         y .named,
         flag-is r "dlc" (read .5),

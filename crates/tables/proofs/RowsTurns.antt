@@ -11,6 +11,7 @@ use mir.Syntax.{w64}
 use mir.Val.{Fits}
 use borrow.Author.Needs.{fits-under}
 use borrow.Author.Tests.{lt-ltb}
+use Rattle.lists.proofs.Cases.{by-cases}
 use Rattle.schema.specs.Schema.{oneOf, under}
 use Rattle.schema.specs.SchemaCode.{kindName, isRuled}
 use Rattle.document.specs.EntriesCode.{Entry, rowWidth, rowSize, entryFrom, entriesFrom, entriesIn}
@@ -33,11 +34,7 @@ module _ (vs : List ℕ) (kind j : ℕ) (own : kind ≡ entryFrom vs .kind) wher
 
 row-short : (kind : ℕ) → rowSize kind ≤ rowWidth
 unfolding rowSize
-row-short kind = by-ruled (isRuled (kindName kind))
-  where
-    by-ruled : (b : Bool) → cond b rowWidth 0 ≤ rowWidth
-    by-ruled true = omega arith
-    by-ruled false = omega arith
+row-short kind = by-cases (isRuled (kindName kind)) (λ t. rw t (omega arith)) (λ t. rw t (omega arith))
 
 pub row-past : (vs : List ℕ) (j : ℕ) → rowWidth ≤ j → 0 ≡ getD (entryFrom vs .row) j 0
 unfolding entryFrom

@@ -1,12 +1,13 @@
 -- What the functions answer, for every input: what one entry says, with those behind it, and what all of them say together. Code-shaped;
 -- proofs/ ties it to the definitions. Nothing here has to be believed.
-use Prim.Native.Nat.{ℕ, _+_, _/_, _%_, _^_}
+use Prim.Native.Nat.{ℕ, _+_}
 use Prim.Native.String.{String}
 use mathlib.Core.List.{List, [], _∷_}
-use mathlib.Core.Bool.{Bool, true, false, cond, _&&_, _||_}
+use mathlib.Core.Bool.{Bool, true, false, cond, _||_}
 use lib.Dec.{ltb, eqb}
 use lib.ListN.{length, set, drop, replicate}
 use Rattle.text.specs.Texts.{bytes}
+use Rattle.lists.specs.BitsCode.{withBit}
 use Rattle.records.specs.declared.Cause.{Cause}
 use Rattle.records.specs.declared.Cause.the-variants.{Id, Length, Error, Startup}
 use Rattle.records.specs.declared.Trigger.{Trigger}
@@ -80,7 +81,7 @@ tellName f n e = cond (isUnder "TRIGGERS" (e .kind)) (pushName n (valueAt (bytes
 -- ---- filters; the CHANNELs of one stand next
 -- one channel more in a mask of five
 unfoldable pub withChannel : ℕ → ℕ → ℕ
-withChannel m c = cond (ltb c 5 && ltb m 32) (cond (eqb (m / 2 ^ c % 2) 1) m (m + 2 ^ c)) m
+withChannel m c = cond (ltb c 5) (withBit m c) m
 
 abbrev pub isChannel : ℕ → Bool
 isChannel kind = isKind kind "CHANNEL"

@@ -1,7 +1,7 @@
 -- What the functions answer, for every input. Code-shaped; proofs/Laws.antt ties it to the definitions. Nothing here has to be believed.
 use Prim.Native.Nat.{ℕ}
 use mathlib.Core.List.{List, [], _∷_, _++_}
-use mathlib.Core.Bool.{Bool, false, not, cond, _&&_}
+use mathlib.Core.Bool.{Bool, true, false, not, cond, _&&_}
 use lib.Dec.{leb, eqb}
 use lib.ListN.{take}
 use Rattle.text.specs.Texts.{same}
@@ -35,17 +35,20 @@ unfoldable pub firstWhere : (Entry → Bool) → List Entry → Refusal
 firstWhere p [] = refusedAt 0 0
 firstWhere p (e ∷ es) = cond (p e) (refusedAt 10 (e .place)) (firstWhere p es)
 
-unfoldable pub busFault : Head → List Entry → Refusal
-busFault h es = cond (lacksFirst (h .channels) (h .present)) (firstWhere (λ e. isKind (e .kind) "CAN_BUS") es) (refusedAt 0 0)
-
 -- an entry names a channel that is not below n
 unfoldable pub isBeyond : ℕ → Entry → Bool
 isBeyond n e =
     cond (isKind (e .kind) "CHANNEL") (leb n (e .number))
     (cond (isUnder "TRIGGERS" (e .kind) && not (isKind (e .kind) "TRIGGER_STARTUP")) (leb n (numberIn e "channel")) false)
 
+abbrev pub isWrong : Bool → ℕ → Entry → Bool
+isWrong bus n e = cond bus (isKind (e .kind) "CAN_BUS") (isBeyond n e)
+
+unfoldable pub busFault : Head → List Entry → Refusal
+busFault h es = cond (lacksFirst (h .channels) (h .present)) (firstWhere (isWrong true (h .channels)) es) (refusedAt 0 0)
+
 unfoldable pub channelFault : Head → List Entry → Refusal
-channelFault h es = firstWhere (isBeyond (h .channels)) es
+channelFault h es = firstWhere (isWrong false (h .channels)) es
 
 -- ---- the first of them
 abbrev pub orElse : Refusal → Refusal → Refusal

@@ -11,10 +11,9 @@ ghost use Prim.Native.Nat.{_≤_};
 ghost use lib.ListN.{length, take, drop};
 ghost use Rattle.text.specs.Texts.{same};
 ghost use Rattle.grammar.specs.TokensCode.{spans};
-ghost use Rattle.element.specs.ElementCode.{isKind};
 ghost use Rattle.document.specs.EntriesCode.{entriesIn};
 ghost use Rattle.tables.specs.RowsCode.{entryAt};
-ghost use Rattle.tables.specs.TablesCode.{usedFrom, nameFault, firstWhere, busFault, isBeyond, channelFault, tableFault, tabled};
+ghost use Rattle.tables.specs.TablesCode.{usedFrom, nameFault, firstWhere, isWrong, busFault, tableFault, tabled};
 ghost use Rattle.file_rules.specs.RefusalCode.{refusedAt};
 ghost use Rattle.lists.specs.Lists.{any};
 
@@ -108,14 +107,31 @@ fn name_fault(file: &[u8], names: Names) -> Refusal
     used_name(file, &starts[..n], &ends[..n], &places[..n])
 }
 
-// 10 at the first CAN_BUS.
-fn first_bus(words: &[u32]) -> Refusal
-    ensures { λ r. ⌜ r ≡ firstWhere (λ e. isKind (e .kind) "CAN_BUS") (entriesIn (now (words .entry))) ⌝ }
+// Is an element a CAN_BUS, if one is looked for, and else does it name a channel that is not below `channels`?
+fn is_wrong(words: &[u32], at: usize, bus: bool, channels: u32) -> bool
+    ensures { λ r. ⌜ r ≡ isWrong bus channels (entryAt (now (words .entry)) at) ⌝ }
+{
+    let kind = cells::kind_at(words, at);
+    if bus {
+        return kinds::is_same(kind, kinds::CAN_BUS);
+    }
+    if kinds::is_same(kind, kinds::CHANNEL) {
+        return channels <= cells::number_at(words, at);
+    }
+    let startup = kinds::is_same(kind, kinds::TRIGGER_STARTUP);
+    if kinds::is_in(kinds::TRIGGERS, kind) & !startup {
+        return channels <= cells::number_in(words, at, attributes::CHANNEL);
+    }
+    false
+}
+
+// 10 at the first such element.
+fn first_wrong(words: &[u32], bus: bool, channels: u32) -> Refusal
+    ensures { λ r. ⌜ r ≡ firstWhere (isWrong bus channels) (entriesIn (now (words .entry))) ⌝ }
 {
     let mut at = 0;
     while at < words.len() {
-        let kind = cells::kind_at(words, at);
-        if kinds::is_same(kind, kinds::CAN_BUS) {
+        if is_wrong(words, at, bus, channels) {
             let place = cells::place_at(words, at);
             return Refusal { number: 10, place };
         }
@@ -131,38 +147,7 @@ fn bus_fault(head: Head, words: &[u32]) -> Refusal
     let flags = head.present;
     let n = head.channels as usize;
     if lists::lacks_first(&flags, n) {
-        return first_bus(words);
-    }
-    no_refusal()
-}
-
-// Does an element name a channel that is not below `channels`?
-fn is_beyond(words: &[u32], at: usize, channels: u32) -> bool
-    ensures { λ r. ⌜ r ≡ isBeyond channels (entryAt (now (words .entry)) at) ⌝ }
-{
-    let kind = cells::kind_at(words, at);
-    if kinds::is_same(kind, kinds::CHANNEL) {
-        return channels <= cells::number_at(words, at);
-    }
-    let startup = kinds::is_same(kind, kinds::TRIGGER_STARTUP);
-    if kinds::is_in(kinds::TRIGGERS, kind) & !startup {
-        return channels <= cells::number_in(words, at, attributes::CHANNEL);
-    }
-    false
-}
-
-// 10 at the first element that names a channel which is not there.
-fn channel_fault(words: &[u32], head: Head) -> Refusal
-    ensures { λ r. ⌜ r ≡ channelFault head (entriesIn (now (words .entry))) ⌝ }
-{
-    let channels = head.channels;
-    let mut at = 0;
-    while at < words.len() {
-        if is_beyond(words, at, channels) {
-            let place = cells::place_at(words, at);
-            return Refusal { number: 10, place };
-        }
-        at = cells::next(words, at);
+        return first_wrong(words, true, head.channels);
     }
     no_refusal()
 }
@@ -181,16 +166,14 @@ fn table_fault(file: &[u8], words: &[u32], told: Told) -> Refusal
     if gap.number != 0 {
         return gap;
     }
-    channel_fault(words, head)
+    first_wrong(words, false, head.channels)
 }
 
 // What the entries of a file say together, and the first of its refusals 9 and 10.
 pub fn read_tables(file: &[u8], words: &[u32]) -> Telling
     ensures { λ r. ⌜ r ≡ tabled (now (file .entry)) (entriesIn (now (words .entry))) ⌝ }
 {
-    let head = rows::tell_head(words);
-    let names = rows::tell_names(file, words);
-    let told = Told { head, names };
+    let told = rows::tell(file, words);
     let fault = table_fault(file, words, told);
     Telling { fault, told }
 }

@@ -1,16 +1,14 @@
 // What the known elements of a file say: the triggers' names, channels, log_all; and one entry, with those behind it.
 //
 // Promises: each answers any file, words and offset, by value, as specs/RowsCode.antt gives it.
-ghost use Prim.Native.Nat.{_<_, _≤_, _+_, _^_};
+ghost use Prim.Native.Nat.{_≤_, _+_};
 ghost use mathlib.Core.Path.{_≡_};
 ghost use mathlib.Core.Bool.{cond};
 ghost use lib.Dec.{ltb};
 ghost use lib.ListN.{length, drop};
-ghost use Rattle.text.specs.Texts.{bytes};
 ghost use Rattle.records.specs.Records.{dlcTop};
-ghost use Rattle.element.specs.ElementCode.{isKind, valueAt};
 ghost use Rattle.document.specs.EntriesCode.{entriesIn};
-ghost use Rattle.tables.specs.RowsCode.{folded, entryAt, front, isChannel, isInner, maskOf, textOf, counted, causeFrom, triggerFrom, effectOf, filterFrom, noNames, tellName, withChannel, actionFrom, noHead, tellHead};
+ghost use Rattle.tables.specs.RowsCode.{entryAt, front, isChannel, isInner, maskOf, textOf, counted, causeFrom, triggerFrom, effectOf, filterFrom, withChannel, actionFrom, tellHead, told};
 use crate::cells;
 use element::fields;
 use records::Cause;
@@ -19,7 +17,6 @@ use records::Filter;
 use records::Trigger;
 use schema::attributes;
 use schema::kinds;
-use walk::Part;
 
 // Where the triggers' names stand in the file, and the triggers.
 pub struct Names {
@@ -82,41 +79,6 @@ pub fn trigger_from(words: &[u32], at: usize) -> Trigger
     Trigger { cause, timeout }
 }
 
-fn name_at(file: &[u8], place: usize) -> Part
-    ensures { λ r. ⌜ r ≡ valueAt (bytes "name") (now (file .entry)) place ⌝ }
-{
-    fields::value_at(file, place, b"name")
-}
-
-pub(crate) fn tell_names(file: &[u8], words: &[u32]) -> Names
-    ensures { λ r. ⌜ r ≡ folded (tellName (now (file .entry))) noNames (entriesIn (now (words .entry))) ⌝ }
-{
-    let mut t = Names {
-        starts: [0; 32],
-        ends: [0; 32],
-        places: [0; 32],
-        count: 0,
-    };
-    let mut at = 0;
-    while at < words.len() {
-        let here = at;
-        let kind = cells::kind_at(words, here);
-        at = cells::next(words, here);
-        if kinds::is_in(kinds::TRIGGERS, kind) {
-            let last = t.count;
-            if last < 32 {
-                let place = cells::place_at(words, here);
-                let p = name_at(file, place);
-                t.starts[last] = p.from;
-                t.ends[last] = p.to;
-                t.places[last] = place;
-                t.count = last + 1;
-            }
-        }
-    }
-    t
-}
-
 fn effect_of(kind: usize) -> Effect
     ensures { λ r. ⌜ r ≡ effectOf kind ⌝ }
 {
@@ -155,35 +117,15 @@ pub fn filter_from(words: &[u32], at: usize, mask: u32) -> Filter
     }
 }
 
-// What a channel is in a mask.
-fn bit_of(channel: u32) -> u32
-    requires { ⌜ channel < 5 ⌝ }
-    ensures { λ r. ⌜ (r ≡ 2 ^ channel) × (1 ≤ r) × (r ≤ 16) ⌝ }
-{
-    match channel {
-        0 => 1,
-        1 => 2,
-        2 => 4,
-        3 => 8,
-        _ => 16,
-    }
-}
-
 // One channel more in a mask of five.
 fn with_channel(mask: u32, channel: u32) -> u32
     ensures { λ r. ⌜ r ≡ withChannel mask channel ⌝ }
 {
-    if 4 < channel {
-        return mask;
+    if channel < 5 {
+        mask | (1 << channel)
+    } else {
+        mask
     }
-    if 31 < mask {
-        return mask;
-    }
-    let bit = bit_of(channel);
-    if mask / bit % 2 == 1 {
-        return mask;
-    }
-    mask + bit
 }
 
 // The channels of the CHANNELs that stand next, from an offset on.
@@ -208,20 +150,7 @@ pub fn mask_from(words: &[u32], at: usize) -> u32
 pub fn is_inner(kind: usize) -> bool
     ensures { λ r. ⌜ r ≡ isInner kind ⌝ }
 {
-    if kinds::is_in(kinds::STATEMENT, kind) {
-        return true;
-    }
-    kinds::is_in(kinds::ACTIONS, kind)
-}
-
-fn text_after(place: usize, kind: usize, here: usize) -> usize
-    ensures { λ r. ⌜ r ≡ cond (isKind kind "EXPRESSION") here place ⌝ }
-{
-    if kinds::is_same(kind, kinds::EXPRESSION) {
-        here
-    } else {
-        place
-    }
+    kinds::is_in(kinds::STATEMENT, kind) | kinds::is_in(kinds::ACTIONS, kind)
 }
 
 // Where the EXPRESSION of a statement stands; its elements are next, from an offset on.
@@ -231,13 +160,15 @@ pub fn text_from(words: &[u32], at: usize) -> usize
     let mut text = 0;
     let mut here = at;
     while here < words.len() {
-        let kind = cells::kind_at(words, here);
+        let entry = here;
+        let kind = cells::kind_at(words, entry);
         if !is_inner(kind) {
             return text;
         }
-        let place = cells::place_at(words, here);
-        text = text_after(text, kind, place);
-        here = cells::next(words, here);
+        here = cells::next(words, entry);
+        if kinds::is_same(kind, kinds::EXPRESSION) {
+            text = cells::place_at(words, entry);
+        }
     }
     text
 }
@@ -262,31 +193,62 @@ fn one_more(channels: u32) -> u32
     if channels < 5 { channels + 1 } else { channels }
 }
 
-pub(crate) fn tell_head(words: &[u32]) -> Head
-    ensures { λ r. ⌜ r ≡ folded tellHead noHead (entriesIn (now (words .entry))) ⌝ }
+// What an entry adds to the head.
+fn tell_head(h: Head, words: &[u32], at: usize) -> Head
+    ensures { λ r. ⌜ r ≡ tellHead h (entryAt (now (words .entry)) at) ⌝ }
 {
-    let mut h = Head {
+    let kind = cells::kind_at(words, at);
+    let mut next = h;
+    if kinds::is_same(kind, kinds::PARAMETERS) {
+        let channel = cells::number_in(words, at, attributes::CHANNEL);
+        next.channels = one_more(h.channels);
+        if channel < 5 {
+            next.present[channel as usize] = true;
+        }
+        return next;
+    }
+    if kinds::is_same(kind, kinds::MODE) {
+        let log = cells::number_in(words, at, attributes::LOG_ALL);
+        next.all = h.all | (log == 1);
+        return next;
+    }
+    h
+}
+
+// What all entries say.
+pub(crate) fn tell(file: &[u8], words: &[u32]) -> Told
+    ensures { λ r. ⌜ r ≡ told (now (file .entry)) (entriesIn (now (words .entry))) ⌝ }
+{
+    let mut head = Head {
         channels: 0,
         present: [false; 5],
         all: false,
+    };
+    let mut t = Names {
+        starts: [0; 32],
+        ends: [0; 32],
+        places: [0; 32],
+        count: 0,
     };
     let mut at = 0;
     while at < words.len() {
         let here = at;
         let kind = cells::kind_at(words, here);
         at = cells::next(words, here);
-        if kinds::is_same(kind, kinds::PARAMETERS) {
-            let channel = cells::number_in(words, here, attributes::CHANNEL);
-            h.channels = one_more(h.channels);
-            if channel < 5 {
-                h.present[channel as usize] = true;
+        head = tell_head(head, words, here);
+        if kinds::is_in(kinds::TRIGGERS, kind) {
+            let last = t.count;
+            if last < 32 {
+                let place = cells::place_at(words, here);
+                let p = fields::value_at(file, place, b"name");
+                t.starts[last] = p.from;
+                t.ends[last] = p.to;
+                t.places[last] = place;
+                t.count = last + 1;
             }
-        } else if kinds::is_same(kind, kinds::MODE) {
-            let log = cells::number_in(words, here, attributes::LOG_ALL);
-            h.all = h.all | (log == 1);
         }
     }
-    h
+    Told { head, names: t }
 }
 
 // How many entries are of kinds that stand in `parent`.

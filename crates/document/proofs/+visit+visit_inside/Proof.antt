@@ -17,7 +17,6 @@ use Rattle.document.proofs.is_looked_at.Reads as is-looked-at-reads
 use Rattle.document.proofs.is_over.Reads as is-over-reads
 use Rattle.document.proofs.mark.Reads as mark-reads
 use Rattle.document.proofs.move_to.Reads as move-to-reads
-use Rattle.document.proofs.none_seen.Reads as none-seen-reads
 use Rattle.document.proofs.pass.Reads as pass-reads
 use Rattle.document.proofs.refused.Reads as refused-reads
 use Rattle.element.proofs.faults.bad_text.Reads as bad-text-reads
@@ -144,129 +143,120 @@ visit-inside-Inv-loop file kind left words₀ i o all₀ seen₀ stray₀ words 
 abbrev visit-inside-μ-loop : visit-inside-lts.MeasureT-loop
 visit-inside-μ-loop file kind left words₀ i o all₀ seen₀ stray₀ words all seen stray = length file - all .at
 
-visit-inside-enum-told : (t : ℕ) → visit-inside-lts.Need-enum-told (none-seen-reads.Asked, none-seen-reads.Learnt, close-reads.Asked, close-reads.Learnt, move-to-reads.Asked, move-to-reads.Learnt, blanks-end-reads.Asked, blanks-end-reads.Learnt, item-at-reads.Asked, item-at-reads.Learnt, child-at-reads.Asked, child-at-reads.Learnt, is-over-reads.Asked, is-over-reads.Learnt, visit-below t, visit.Post, mark-reads.Asked, mark-reads.Learnt) (visit-inside-at t) visit-inside.Post visit-inside-Inv-loop visit-inside-μ-loop
+visit-inside-enum-told : (t : ℕ) → visit-inside-lts.Need-enum-told (close-reads.Asked, close-reads.Learnt, move-to-reads.Asked, move-to-reads.Learnt, blanks-end-reads.Asked, blanks-end-reads.Learnt, item-at-reads.Asked, item-at-reads.Learnt, child-at-reads.Asked, child-at-reads.Learnt, is-over-reads.Asked, is-over-reads.Learnt, visit-below t, visit.Post, mark-reads.Asked, mark-reads.Learnt) (visit-inside-at t) visit-inside.Post visit-inside-Inv-loop visit-inside-μ-loop
 visit-inside-enum-told t c = search needs
 
-visit-inside-none-seen-requires : (t : ℕ) → visit-inside-lts.Need-none-seen-requires (none-seen-reads.Asked, none-seen-reads.Learnt, close-reads.Asked, close-reads.Learnt, move-to-reads.Asked, move-to-reads.Learnt, blanks-end-reads.Asked, blanks-end-reads.Learnt, item-at-reads.Asked, item-at-reads.Learnt, child-at-reads.Asked, child-at-reads.Learnt, is-over-reads.Asked, is-over-reads.Learnt, visit-below t, visit.Post, mark-reads.Asked, mark-reads.Learnt) (visit-inside-at t) visit-inside.Post visit-inside-Inv-loop visit-inside-μ-loop
-visit-inside-none-seen-requires t c κs = search needs
-
-visit-inside-close-requires : (t : ℕ) → visit-inside-lts.Need-close-requires (none-seen-reads.Asked, none-seen-reads.Learnt, close-reads.Asked, close-reads.Learnt, move-to-reads.Asked, move-to-reads.Learnt, blanks-end-reads.Asked, blanks-end-reads.Learnt, item-at-reads.Asked, item-at-reads.Learnt, child-at-reads.Asked, child-at-reads.Learnt, is-over-reads.Asked, is-over-reads.Learnt, visit-below t, visit.Post, mark-reads.Asked, mark-reads.Learnt) (visit-inside-at t) visit-inside.Post visit-inside-Inv-loop visit-inside-μ-loop
+visit-inside-close-requires : (t : ℕ) → visit-inside-lts.Need-close-requires (close-reads.Asked, close-reads.Learnt, move-to-reads.Asked, move-to-reads.Learnt, blanks-end-reads.Asked, blanks-end-reads.Learnt, item-at-reads.Asked, item-at-reads.Learnt, child-at-reads.Asked, child-at-reads.Learnt, is-over-reads.Asked, is-over-reads.Learnt, visit-below t, visit.Post, mark-reads.Asked, mark-reads.Learnt) (visit-inside-at t) visit-inside.Post visit-inside-Inv-loop visit-inside-μ-loop
 visit-inside-close-requires t c κs = search needs
 
-visit-inside-enum-known-body : (t : ℕ) → visit-inside-lts.Need-enum-known-body (none-seen-reads.Asked, none-seen-reads.Learnt, close-reads.Asked, close-reads.Learnt, move-to-reads.Asked, move-to-reads.Learnt, blanks-end-reads.Asked, blanks-end-reads.Learnt, item-at-reads.Asked, item-at-reads.Learnt, child-at-reads.Asked, child-at-reads.Learnt, is-over-reads.Asked, is-over-reads.Learnt, visit-below t, visit.Post, mark-reads.Asked, mark-reads.Learnt) (visit-inside-at t) visit-inside.Post visit-inside-Inv-loop visit-inside-μ-loop
+visit-inside-enum-known-body : (t : ℕ) → visit-inside-lts.Need-enum-known-body (close-reads.Asked, close-reads.Learnt, move-to-reads.Asked, move-to-reads.Learnt, blanks-end-reads.Asked, blanks-end-reads.Learnt, item-at-reads.Asked, item-at-reads.Learnt, child-at-reads.Asked, child-at-reads.Learnt, is-over-reads.Asked, is-over-reads.Learnt, visit-below t, visit.Post, mark-reads.Asked, mark-reads.Learnt) (visit-inside-at t) visit-inside.Post visit-inside-Inv-loop visit-inside-μ-loop
 visit-inside-enum-known-body t c = search needs
 
-visit-inside-none-seen-requires-2 : (t : ℕ) → visit-inside-lts.Need-none-seen-requires-2 (none-seen-reads.Asked, none-seen-reads.Learnt, close-reads.Asked, close-reads.Learnt, move-to-reads.Asked, move-to-reads.Learnt, blanks-end-reads.Asked, blanks-end-reads.Learnt, item-at-reads.Asked, item-at-reads.Learnt, child-at-reads.Asked, child-at-reads.Learnt, is-over-reads.Asked, is-over-reads.Learnt, visit-below t, visit.Post, mark-reads.Asked, mark-reads.Learnt) (visit-inside-at t) visit-inside.Post visit-inside-Inv-loop visit-inside-μ-loop
-visit-inside-none-seen-requires-2 t c κs = search needs
-
-visit-inside-close-requires-2 : (t : ℕ) → visit-inside-lts.Need-close-requires-2 (none-seen-reads.Asked, none-seen-reads.Learnt, close-reads.Asked, close-reads.Learnt, move-to-reads.Asked, move-to-reads.Learnt, blanks-end-reads.Asked, blanks-end-reads.Learnt, item-at-reads.Asked, item-at-reads.Learnt, child-at-reads.Asked, child-at-reads.Learnt, is-over-reads.Asked, is-over-reads.Learnt, visit-below t, visit.Post, mark-reads.Asked, mark-reads.Learnt) (visit-inside-at t) visit-inside.Post visit-inside-Inv-loop visit-inside-μ-loop
+visit-inside-close-requires-2 : (t : ℕ) → visit-inside-lts.Need-close-requires-2 (close-reads.Asked, close-reads.Learnt, move-to-reads.Asked, move-to-reads.Learnt, blanks-end-reads.Asked, blanks-end-reads.Learnt, item-at-reads.Asked, item-at-reads.Learnt, child-at-reads.Asked, child-at-reads.Learnt, is-over-reads.Asked, is-over-reads.Learnt, visit-below t, visit.Post, mark-reads.Asked, mark-reads.Learnt) (visit-inside-at t) visit-inside.Post visit-inside-Inv-loop visit-inside-μ-loop
 visit-inside-close-requires-2 t c κs = search needs
 
-visit-inside-enum-known-body-2 : (t : ℕ) → visit-inside-lts.Need-enum-known-body-2 (none-seen-reads.Asked, none-seen-reads.Learnt, close-reads.Asked, close-reads.Learnt, move-to-reads.Asked, move-to-reads.Learnt, blanks-end-reads.Asked, blanks-end-reads.Learnt, item-at-reads.Asked, item-at-reads.Learnt, child-at-reads.Asked, child-at-reads.Learnt, is-over-reads.Asked, is-over-reads.Learnt, visit-below t, visit.Post, mark-reads.Asked, mark-reads.Learnt) (visit-inside-at t) visit-inside.Post visit-inside-Inv-loop visit-inside-μ-loop
+visit-inside-enum-known-body-2 : (t : ℕ) → visit-inside-lts.Need-enum-known-body-2 (close-reads.Asked, close-reads.Learnt, move-to-reads.Asked, move-to-reads.Learnt, blanks-end-reads.Asked, blanks-end-reads.Learnt, item-at-reads.Asked, item-at-reads.Learnt, child-at-reads.Asked, child-at-reads.Learnt, is-over-reads.Asked, is-over-reads.Learnt, visit-below t, visit.Post, mark-reads.Asked, mark-reads.Learnt) (visit-inside-at t) visit-inside.Post visit-inside-Inv-loop visit-inside-μ-loop
 visit-inside-enum-known-body-2 t c = search needs
 
-visit-inside-move-to-requires : (t : ℕ) → visit-inside-lts.Need-move-to-requires (none-seen-reads.Asked, none-seen-reads.Learnt, close-reads.Asked, close-reads.Learnt, move-to-reads.Asked, move-to-reads.Learnt, blanks-end-reads.Asked, blanks-end-reads.Learnt, item-at-reads.Asked, item-at-reads.Learnt, child-at-reads.Asked, child-at-reads.Learnt, is-over-reads.Asked, is-over-reads.Learnt, visit-below t, visit.Post, mark-reads.Asked, mark-reads.Learnt) (visit-inside-at t) visit-inside.Post visit-inside-Inv-loop visit-inside-μ-loop
+visit-inside-move-to-requires : (t : ℕ) → visit-inside-lts.Need-move-to-requires (close-reads.Asked, close-reads.Learnt, move-to-reads.Asked, move-to-reads.Learnt, blanks-end-reads.Asked, blanks-end-reads.Learnt, item-at-reads.Asked, item-at-reads.Learnt, child-at-reads.Asked, child-at-reads.Learnt, is-over-reads.Asked, is-over-reads.Learnt, visit-below t, visit.Post, mark-reads.Asked, mark-reads.Learnt) (visit-inside-at t) visit-inside.Post visit-inside-Inv-loop visit-inside-μ-loop
 visit-inside-move-to-requires t c κs = search needs
 
-visit-inside-none-seen-requires-3 : (t : ℕ) → visit-inside-lts.Need-none-seen-requires-3 (none-seen-reads.Asked, none-seen-reads.Learnt, close-reads.Asked, close-reads.Learnt, move-to-reads.Asked, move-to-reads.Learnt, blanks-end-reads.Asked, blanks-end-reads.Learnt, item-at-reads.Asked, item-at-reads.Learnt, child-at-reads.Asked, child-at-reads.Learnt, is-over-reads.Asked, is-over-reads.Learnt, visit-below t, visit.Post, mark-reads.Asked, mark-reads.Learnt) (visit-inside-at t) visit-inside.Post visit-inside-Inv-loop visit-inside-μ-loop
-visit-inside-none-seen-requires-3 t c κs = search needs
+visit-inside-loop-holds : (t : ℕ) → visit-inside-lts.Need-loop-holds (close-reads.Asked, close-reads.Learnt, move-to-reads.Asked, move-to-reads.Learnt, blanks-end-reads.Asked, blanks-end-reads.Learnt, item-at-reads.Asked, item-at-reads.Learnt, child-at-reads.Asked, child-at-reads.Learnt, is-over-reads.Asked, is-over-reads.Learnt, visit-below t, visit.Post, mark-reads.Asked, mark-reads.Learnt) (visit-inside-at t) visit-inside.Post visit-inside-Inv-loop visit-inside-μ-loop
+visit-inside-loop-holds t c = (inner-start (c .before .before .before .before .before .before .args .file .now) _ _ _ (c .before .before .before .before .before .before .pre .1 .0) _ _ _ _ _ (sym (c .before .before .before .before .before .before .pre .1 .2) ∙ c .before .before .body2 .given .1) (c .move-to .ensures .1) refl, refl, sound-same _ _ _ (c .before .before .before .before .before .before .pre .1 .1) (c .move-to .ensures .2))
 
-visit-inside-loop-holds : (t : ℕ) → visit-inside-lts.Need-loop-holds (none-seen-reads.Asked, none-seen-reads.Learnt, close-reads.Asked, close-reads.Learnt, move-to-reads.Asked, move-to-reads.Learnt, blanks-end-reads.Asked, blanks-end-reads.Learnt, item-at-reads.Asked, item-at-reads.Learnt, child-at-reads.Asked, child-at-reads.Learnt, is-over-reads.Asked, is-over-reads.Learnt, visit-below t, visit.Post, mark-reads.Asked, mark-reads.Learnt) (visit-inside-at t) visit-inside.Post visit-inside-Inv-loop visit-inside-μ-loop
-visit-inside-loop-holds t c = (inner-start (c .before .before .before .before .before .before .before .args .file .now) _ _ _ (c .before .before .before .before .before .before .before .pre .1 .0) _ _ _ _ _ (sym (c .before .before .before .before .before .before .before .pre .1 .2) ∙ c .before .before .before .body2 .given .1) (c .before .move-to .ensures .1) (c .none-seen3 .ensures), refl, sound-same _ _ _ (c .before .before .before .before .before .before .before .pre .1 .1) (c .before .move-to .ensures .2))
-
-visit-inside-blanks-end-requires : (t : ℕ) → visit-inside-lts.Need-blanks-end-requires (none-seen-reads.Asked, none-seen-reads.Learnt, close-reads.Asked, close-reads.Learnt, move-to-reads.Asked, move-to-reads.Learnt, blanks-end-reads.Asked, blanks-end-reads.Learnt, item-at-reads.Asked, item-at-reads.Learnt, child-at-reads.Asked, child-at-reads.Learnt, is-over-reads.Asked, is-over-reads.Learnt, visit-below t, visit.Post, mark-reads.Asked, mark-reads.Learnt) (visit-inside-at t) visit-inside.Post visit-inside-Inv-loop visit-inside-μ-loop
+visit-inside-blanks-end-requires : (t : ℕ) → visit-inside-lts.Need-blanks-end-requires (close-reads.Asked, close-reads.Learnt, move-to-reads.Asked, move-to-reads.Learnt, blanks-end-reads.Asked, blanks-end-reads.Learnt, item-at-reads.Asked, item-at-reads.Learnt, child-at-reads.Asked, child-at-reads.Learnt, is-over-reads.Asked, is-over-reads.Learnt, visit-below t, visit.Post, mark-reads.Asked, mark-reads.Learnt) (visit-inside-at t) visit-inside.Post visit-inside-Inv-loop visit-inside-μ-loop
 visit-inside-blanks-end-requires t c κs = search needs
 
-visit-inside-item-at-requires : (t : ℕ) → visit-inside-lts.Need-item-at-requires (none-seen-reads.Asked, none-seen-reads.Learnt, close-reads.Asked, close-reads.Learnt, move-to-reads.Asked, move-to-reads.Learnt, blanks-end-reads.Asked, blanks-end-reads.Learnt, item-at-reads.Asked, item-at-reads.Learnt, child-at-reads.Asked, child-at-reads.Learnt, is-over-reads.Asked, is-over-reads.Learnt, visit-below t, visit.Post, mark-reads.Asked, mark-reads.Learnt) (visit-inside-at t) visit-inside.Post visit-inside-Inv-loop visit-inside-μ-loop
+visit-inside-item-at-requires : (t : ℕ) → visit-inside-lts.Need-item-at-requires (close-reads.Asked, close-reads.Learnt, move-to-reads.Asked, move-to-reads.Learnt, blanks-end-reads.Asked, blanks-end-reads.Learnt, item-at-reads.Asked, item-at-reads.Learnt, child-at-reads.Asked, child-at-reads.Learnt, is-over-reads.Asked, is-over-reads.Learnt, visit-below t, visit.Post, mark-reads.Asked, mark-reads.Learnt) (visit-inside-at t) visit-inside.Post visit-inside-Inv-loop visit-inside-μ-loop
 visit-inside-item-at-requires t c κs = search needs
 
-visit-inside-enum-known-k : (t : ℕ) → visit-inside-lts.Need-enum-known-k (none-seen-reads.Asked, none-seen-reads.Learnt, close-reads.Asked, close-reads.Learnt, move-to-reads.Asked, move-to-reads.Learnt, blanks-end-reads.Asked, blanks-end-reads.Learnt, item-at-reads.Asked, item-at-reads.Learnt, child-at-reads.Asked, child-at-reads.Learnt, is-over-reads.Asked, is-over-reads.Learnt, visit-below t, visit.Post, mark-reads.Asked, mark-reads.Learnt) (visit-inside-at t) visit-inside.Post visit-inside-Inv-loop visit-inside-μ-loop
+visit-inside-enum-known-k : (t : ℕ) → visit-inside-lts.Need-enum-known-k (close-reads.Asked, close-reads.Learnt, move-to-reads.Asked, move-to-reads.Learnt, blanks-end-reads.Asked, blanks-end-reads.Learnt, item-at-reads.Asked, item-at-reads.Learnt, child-at-reads.Asked, child-at-reads.Learnt, is-over-reads.Asked, is-over-reads.Learnt, visit-below t, visit.Post, mark-reads.Asked, mark-reads.Learnt) (visit-inside-at t) visit-inside.Post visit-inside-Inv-loop visit-inside-μ-loop
 visit-inside-enum-known-k t c = search needs
 
-visit-inside-loop-less : (t : ℕ) → visit-inside-lts.Need-loop-less (none-seen-reads.Asked, none-seen-reads.Learnt, close-reads.Asked, close-reads.Learnt, move-to-reads.Asked, move-to-reads.Learnt, blanks-end-reads.Asked, blanks-end-reads.Learnt, item-at-reads.Asked, item-at-reads.Learnt, child-at-reads.Asked, child-at-reads.Learnt, is-over-reads.Asked, is-over-reads.Learnt, visit-below t, visit.Post, mark-reads.Asked, mark-reads.Learnt) (visit-inside-at t) visit-inside.Post visit-inside-Inv-loop visit-inside-μ-loop
-visit-inside-loop-less t c = let l = low-of isBlank (c .before .before .before .before .before .before .before .before .before .before .before .before .before .before .before .args .file .now) (c .before .before .before .before .before .before .before .loop .all .at) _ (c .before .before .before .before .blanks-end .ensures) in
-    let h = item-from (c .before .before .before .before .before .before .before .before .before .before .before .before .before .before .before .args .file .now) (c .before .before .before .before .blanks-end .result) _ (sym (c .before .k .given .1) ∙ c .before .before .before .item-at .ensures) in
+visit-inside-loop-less : (t : ℕ) → visit-inside-lts.Need-loop-less (close-reads.Asked, close-reads.Learnt, move-to-reads.Asked, move-to-reads.Learnt, blanks-end-reads.Asked, blanks-end-reads.Learnt, item-at-reads.Asked, item-at-reads.Learnt, child-at-reads.Asked, child-at-reads.Learnt, is-over-reads.Asked, is-over-reads.Learnt, visit-below t, visit.Post, mark-reads.Asked, mark-reads.Learnt) (visit-inside-at t) visit-inside.Post visit-inside-Inv-loop visit-inside-μ-loop
+visit-inside-loop-less t c = let l = low-of isBlank (c .before .before .before .before .before .before .before .before .before .before .before .before .before .before .args .file .now) (c .before .before .before .before .before .before .before .loop .all .at) _ (c .before .before .before .before .blanks-end .ensures) in
+    let h = item-from (c .before .before .before .before .before .before .before .before .before .before .before .before .before .before .args .file .now) (c .before .before .before .before .blanks-end .result) _ (sym (c .before .k .given .1) ∙ c .before .before .before .item-at .ensures) in
     omega (arith, h .0, h .1, l, c .before .before .before .before .before .if1 .taken)
 
-visit-inside-loop-again : (t : ℕ) → visit-inside-lts.Need-loop-again (none-seen-reads.Asked, none-seen-reads.Learnt, close-reads.Asked, close-reads.Learnt, move-to-reads.Asked, move-to-reads.Learnt, blanks-end-reads.Asked, blanks-end-reads.Learnt, item-at-reads.Asked, item-at-reads.Learnt, child-at-reads.Asked, child-at-reads.Learnt, is-over-reads.Asked, is-over-reads.Learnt, visit-below t, visit.Post, mark-reads.Asked, mark-reads.Learnt) (visit-inside-at t) visit-inside.Post visit-inside-Inv-loop visit-inside-μ-loop
+visit-inside-loop-again : (t : ℕ) → visit-inside-lts.Need-loop-again (close-reads.Asked, close-reads.Learnt, move-to-reads.Asked, move-to-reads.Learnt, blanks-end-reads.Asked, blanks-end-reads.Learnt, item-at-reads.Asked, item-at-reads.Learnt, child-at-reads.Asked, child-at-reads.Learnt, is-over-reads.Asked, is-over-reads.Learnt, visit-below t, visit.Post, mark-reads.Asked, mark-reads.Learnt) (visit-inside-at t) visit-inside.Post visit-inside-Inv-loop visit-inside-μ-loop
 unfolding found
-visit-inside-loop-again t c = (inner-passed (c .before .before .before .before .before .before .before .before .before .before .before .before .before .before .before .args .file .now) _ _ _ _ _ _ _ _ (c .before .before .before .before .before .before .before .loop .all .at) (c .before .before .before .before .before .before .before .loop .inv .0) (c .before .before .before .before .blanks-end .ensures) (Item.Text _) (sym (c .before .k .given .1) ∙ c .before .before .before .item-at .ensures), c .before .before .before .before .before .before .before .loop .inv .1, c .before .before .before .before .before .before .before .loop .inv .2)
+visit-inside-loop-again t c = (inner-passed (c .before .before .before .before .before .before .before .before .before .before .before .before .before .before .args .file .now) _ _ _ _ _ _ _ _ (c .before .before .before .before .before .before .before .loop .all .at) (c .before .before .before .before .before .before .before .loop .inv .0) (c .before .before .before .before .blanks-end .ensures) (Item.Text _) (sym (c .before .k .given .1) ∙ c .before .before .before .item-at .ensures), c .before .before .before .before .before .before .before .loop .inv .1, c .before .before .before .before .before .before .before .loop .inv .2)
 
-visit-inside-enum-known-k-2 : (t : ℕ) → visit-inside-lts.Need-enum-known-k-2 (none-seen-reads.Asked, none-seen-reads.Learnt, close-reads.Asked, close-reads.Learnt, move-to-reads.Asked, move-to-reads.Learnt, blanks-end-reads.Asked, blanks-end-reads.Learnt, item-at-reads.Asked, item-at-reads.Learnt, child-at-reads.Asked, child-at-reads.Learnt, is-over-reads.Asked, is-over-reads.Learnt, visit-below t, visit.Post, mark-reads.Asked, mark-reads.Learnt) (visit-inside-at t) visit-inside.Post visit-inside-Inv-loop visit-inside-μ-loop
+visit-inside-enum-known-k-2 : (t : ℕ) → visit-inside-lts.Need-enum-known-k-2 (close-reads.Asked, close-reads.Learnt, move-to-reads.Asked, move-to-reads.Learnt, blanks-end-reads.Asked, blanks-end-reads.Learnt, item-at-reads.Asked, item-at-reads.Learnt, child-at-reads.Asked, child-at-reads.Learnt, is-over-reads.Asked, is-over-reads.Learnt, visit-below t, visit.Post, mark-reads.Asked, mark-reads.Learnt) (visit-inside-at t) visit-inside.Post visit-inside-Inv-loop visit-inside-μ-loop
 visit-inside-enum-known-k-2 t c = search needs
 
-visit-inside-loop-less-2 : (t : ℕ) → visit-inside-lts.Need-loop-less-2 (none-seen-reads.Asked, none-seen-reads.Learnt, close-reads.Asked, close-reads.Learnt, move-to-reads.Asked, move-to-reads.Learnt, blanks-end-reads.Asked, blanks-end-reads.Learnt, item-at-reads.Asked, item-at-reads.Learnt, child-at-reads.Asked, child-at-reads.Learnt, is-over-reads.Asked, is-over-reads.Learnt, visit-below t, visit.Post, mark-reads.Asked, mark-reads.Learnt) (visit-inside-at t) visit-inside.Post visit-inside-Inv-loop visit-inside-μ-loop
-visit-inside-loop-less-2 t c = let l = low-of isBlank (c .before .before .before .before .before .before .before .before .before .before .before .before .before .before .before .args .file .now) (c .before .before .before .before .before .before .before .loop .all .at) _ (c .before .before .before .before .blanks-end .ensures) in
-    let h = item-from (c .before .before .before .before .before .before .before .before .before .before .before .before .before .before .before .args .file .now) (c .before .before .before .before .blanks-end .result) _ (sym (c .before .k2 .given .1) ∙ c .before .before .before .item-at .ensures) in
+visit-inside-loop-less-2 : (t : ℕ) → visit-inside-lts.Need-loop-less-2 (close-reads.Asked, close-reads.Learnt, move-to-reads.Asked, move-to-reads.Learnt, blanks-end-reads.Asked, blanks-end-reads.Learnt, item-at-reads.Asked, item-at-reads.Learnt, child-at-reads.Asked, child-at-reads.Learnt, is-over-reads.Asked, is-over-reads.Learnt, visit-below t, visit.Post, mark-reads.Asked, mark-reads.Learnt) (visit-inside-at t) visit-inside.Post visit-inside-Inv-loop visit-inside-μ-loop
+visit-inside-loop-less-2 t c = let l = low-of isBlank (c .before .before .before .before .before .before .before .before .before .before .before .before .before .before .args .file .now) (c .before .before .before .before .before .before .before .loop .all .at) _ (c .before .before .before .before .blanks-end .ensures) in
+    let h = item-from (c .before .before .before .before .before .before .before .before .before .before .before .before .before .before .args .file .now) (c .before .before .before .before .blanks-end .result) _ (sym (c .before .k2 .given .1) ∙ c .before .before .before .item-at .ensures) in
     omega (arith, h .0, h .1, l, c .before .before .before .before .before .if1 .taken)
 
-visit-inside-loop-again-2 : (t : ℕ) → visit-inside-lts.Need-loop-again-2 (none-seen-reads.Asked, none-seen-reads.Learnt, close-reads.Asked, close-reads.Learnt, move-to-reads.Asked, move-to-reads.Learnt, blanks-end-reads.Asked, blanks-end-reads.Learnt, item-at-reads.Asked, item-at-reads.Learnt, child-at-reads.Asked, child-at-reads.Learnt, is-over-reads.Asked, is-over-reads.Learnt, visit-below t, visit.Post, mark-reads.Asked, mark-reads.Learnt) (visit-inside-at t) visit-inside.Post visit-inside-Inv-loop visit-inside-μ-loop
+visit-inside-loop-again-2 : (t : ℕ) → visit-inside-lts.Need-loop-again-2 (close-reads.Asked, close-reads.Learnt, move-to-reads.Asked, move-to-reads.Learnt, blanks-end-reads.Asked, blanks-end-reads.Learnt, item-at-reads.Asked, item-at-reads.Learnt, child-at-reads.Asked, child-at-reads.Learnt, is-over-reads.Asked, is-over-reads.Learnt, visit-below t, visit.Post, mark-reads.Asked, mark-reads.Learnt) (visit-inside-at t) visit-inside.Post visit-inside-Inv-loop visit-inside-μ-loop
 unfolding found
-visit-inside-loop-again-2 t c = (inner-remark (c .before .before .before .before .before .before .before .before .before .before .before .before .before .before .before .args .file .now) _ _ _ _ _ _ _ _ (inner-passed (c .before .before .before .before .before .before .before .before .before .before .before .before .before .before .before .args .file .now) _ _ _ _ _ _ _ _ (c .before .before .before .before .before .before .before .loop .all .at) (c .before .before .before .before .before .before .before .loop .inv .0) (c .before .before .before .before .blanks-end .ensures) (Item.Remark _) (sym (c .before .k2 .given .1) ∙ c .before .before .before .item-at .ensures)) _ (sym (c .before .k2 .given .1) ∙ c .before .before .before .item-at .ensures), c .before .before .before .before .before .before .before .loop .inv .1, c .before .before .before .before .before .before .before .loop .inv .2)
+visit-inside-loop-again-2 t c = (inner-remark (c .before .before .before .before .before .before .before .before .before .before .before .before .before .before .args .file .now) _ _ _ _ _ _ _ _ (inner-passed (c .before .before .before .before .before .before .before .before .before .before .before .before .before .before .args .file .now) _ _ _ _ _ _ _ _ (c .before .before .before .before .before .before .before .loop .all .at) (c .before .before .before .before .before .before .before .loop .inv .0) (c .before .before .before .before .blanks-end .ensures) (Item.Remark _) (sym (c .before .k2 .given .1) ∙ c .before .before .before .item-at .ensures)) _ (sym (c .before .k2 .given .1) ∙ c .before .before .before .item-at .ensures), c .before .before .before .before .before .before .before .loop .inv .1, c .before .before .before .before .before .before .before .loop .inv .2)
 
-visit-inside-enum-told-2 : (t : ℕ) → visit-inside-lts.Need-enum-told-2 (none-seen-reads.Asked, none-seen-reads.Learnt, close-reads.Asked, close-reads.Learnt, move-to-reads.Asked, move-to-reads.Learnt, blanks-end-reads.Asked, blanks-end-reads.Learnt, item-at-reads.Asked, item-at-reads.Learnt, child-at-reads.Asked, child-at-reads.Learnt, is-over-reads.Asked, is-over-reads.Learnt, visit-below t, visit.Post, mark-reads.Asked, mark-reads.Learnt) (visit-inside-at t) visit-inside.Post visit-inside-Inv-loop visit-inside-μ-loop
+visit-inside-enum-told-2 : (t : ℕ) → visit-inside-lts.Need-enum-told-2 (close-reads.Asked, close-reads.Learnt, move-to-reads.Asked, move-to-reads.Learnt, blanks-end-reads.Asked, blanks-end-reads.Learnt, item-at-reads.Asked, item-at-reads.Learnt, child-at-reads.Asked, child-at-reads.Learnt, is-over-reads.Asked, is-over-reads.Learnt, visit-below t, visit.Post, mark-reads.Asked, mark-reads.Learnt) (visit-inside-at t) visit-inside.Post visit-inside-Inv-loop visit-inside-μ-loop
 visit-inside-enum-told-2 t c = search needs
 
-visit-inside-child-at-requires : (t : ℕ) → visit-inside-lts.Need-child-at-requires (none-seen-reads.Asked, none-seen-reads.Learnt, close-reads.Asked, close-reads.Learnt, move-to-reads.Asked, move-to-reads.Learnt, blanks-end-reads.Asked, blanks-end-reads.Learnt, item-at-reads.Asked, item-at-reads.Learnt, child-at-reads.Asked, child-at-reads.Learnt, is-over-reads.Asked, is-over-reads.Learnt, visit-below t, visit.Post, mark-reads.Asked, mark-reads.Learnt) (visit-inside-at t) visit-inside.Post visit-inside-Inv-loop visit-inside-μ-loop
+visit-inside-child-at-requires : (t : ℕ) → visit-inside-lts.Need-child-at-requires (close-reads.Asked, close-reads.Learnt, move-to-reads.Asked, move-to-reads.Learnt, blanks-end-reads.Asked, blanks-end-reads.Learnt, item-at-reads.Asked, item-at-reads.Learnt, child-at-reads.Asked, child-at-reads.Learnt, is-over-reads.Asked, is-over-reads.Learnt, visit-below t, visit.Post, mark-reads.Asked, mark-reads.Learnt) (visit-inside-at t) visit-inside.Post visit-inside-Inv-loop visit-inside-μ-loop
 visit-inside-child-at-requires t c κs = search needs
 
-visit-inside-is-over-requires : (t : ℕ) → visit-inside-lts.Need-is-over-requires (none-seen-reads.Asked, none-seen-reads.Learnt, close-reads.Asked, close-reads.Learnt, move-to-reads.Asked, move-to-reads.Learnt, blanks-end-reads.Asked, blanks-end-reads.Learnt, item-at-reads.Asked, item-at-reads.Learnt, child-at-reads.Asked, child-at-reads.Learnt, is-over-reads.Asked, is-over-reads.Learnt, visit-below t, visit.Post, mark-reads.Asked, mark-reads.Learnt) (visit-inside-at t) visit-inside.Post visit-inside-Inv-loop visit-inside-μ-loop
+visit-inside-is-over-requires : (t : ℕ) → visit-inside-lts.Need-is-over-requires (close-reads.Asked, close-reads.Learnt, move-to-reads.Asked, move-to-reads.Learnt, blanks-end-reads.Asked, blanks-end-reads.Learnt, item-at-reads.Asked, item-at-reads.Learnt, child-at-reads.Asked, child-at-reads.Learnt, is-over-reads.Asked, is-over-reads.Learnt, visit-below t, visit.Post, mark-reads.Asked, mark-reads.Learnt) (visit-inside-at t) visit-inside.Post visit-inside-Inv-loop visit-inside-μ-loop
 visit-inside-is-over-requires t c κs = search needs
 
-visit-inside-visit-requires : (t : ℕ) → visit-inside-lts.Need-visit-requires (none-seen-reads.Asked, none-seen-reads.Learnt, close-reads.Asked, close-reads.Learnt, move-to-reads.Asked, move-to-reads.Learnt, blanks-end-reads.Asked, blanks-end-reads.Learnt, item-at-reads.Asked, item-at-reads.Learnt, child-at-reads.Asked, child-at-reads.Learnt, is-over-reads.Asked, is-over-reads.Learnt, visit-below t, visit.Post, mark-reads.Asked, mark-reads.Learnt) (visit-inside-at t) visit-inside.Post visit-inside-Inv-loop visit-inside-μ-loop
-visit-inside-visit-requires t c κs = (omega (arith, c .before .before .before .before .before .before .before .before .before .before .before .before .before .before .before .before .before .pre .0), (child-ready (c .before .before .before .before .before .before .before .before .before .before .before .before .before .before .before .before .before .args .file .now) _ _ _ _ _ _ _ _ (inner-passed (c .before .before .before .before .before .before .before .before .before .before .before .before .before .before .before .before .before .args .file .now) _ _ _ _ _ _ _ _ (c .before .before .before .before .before .before .before .before .before .loop .all .at) (c .before .before .before .before .before .before .before .before .before .loop .inv .0) (c .before .before .before .before .before .before .blanks-end .ensures) Item.Child (sym (c .before .before .before .enum-told2 .given .1) ∙ c .before .before .before .before .before .item-at .ensures)) _ _ (c .before .before .before .before .before .before .before .before .before .before .before .before .before .before .before .before .before .pre .1 .0) (c .before .before .before .before .before .before .before .before .before .loop .inv .1) (sym (c .before .before .before .enum-told2 .given .1) ∙ c .before .before .before .before .before .item-at .ensures), c .before .before .before .before .before .before .before .before .before .loop .inv .2, c .before .before .child-at .ensures .1))
+visit-inside-visit-requires : (t : ℕ) → visit-inside-lts.Need-visit-requires (close-reads.Asked, close-reads.Learnt, move-to-reads.Asked, move-to-reads.Learnt, blanks-end-reads.Asked, blanks-end-reads.Learnt, item-at-reads.Asked, item-at-reads.Learnt, child-at-reads.Asked, child-at-reads.Learnt, is-over-reads.Asked, is-over-reads.Learnt, visit-below t, visit.Post, mark-reads.Asked, mark-reads.Learnt) (visit-inside-at t) visit-inside.Post visit-inside-Inv-loop visit-inside-μ-loop
+visit-inside-visit-requires t c κs = (omega (arith, c .before .before .before .before .before .before .before .before .before .before .before .before .before .before .before .before .pre .0), (child-ready (c .before .before .before .before .before .before .before .before .before .before .before .before .before .before .before .before .args .file .now) _ _ _ _ _ _ _ _ (inner-passed (c .before .before .before .before .before .before .before .before .before .before .before .before .before .before .before .before .args .file .now) _ _ _ _ _ _ _ _ (c .before .before .before .before .before .before .before .before .before .loop .all .at) (c .before .before .before .before .before .before .before .before .before .loop .inv .0) (c .before .before .before .before .before .before .blanks-end .ensures) Item.Child (sym (c .before .before .before .enum-told2 .given .1) ∙ c .before .before .before .before .before .item-at .ensures)) _ _ (c .before .before .before .before .before .before .before .before .before .before .before .before .before .before .before .before .pre .1 .0) (c .before .before .before .before .before .before .before .before .before .loop .inv .1) (sym (c .before .before .before .enum-told2 .given .1) ∙ c .before .before .before .before .before .item-at .ensures), c .before .before .before .before .before .before .before .before .before .loop .inv .2, c .before .before .child-at .ensures .1))
 
-visit-inside-mark-requires : (t : ℕ) → visit-inside-lts.Need-mark-requires (none-seen-reads.Asked, none-seen-reads.Learnt, close-reads.Asked, close-reads.Learnt, move-to-reads.Asked, move-to-reads.Learnt, blanks-end-reads.Asked, blanks-end-reads.Learnt, item-at-reads.Asked, item-at-reads.Learnt, child-at-reads.Asked, child-at-reads.Learnt, is-over-reads.Asked, is-over-reads.Learnt, visit-below t, visit.Post, mark-reads.Asked, mark-reads.Learnt) (visit-inside-at t) visit-inside.Post visit-inside-Inv-loop visit-inside-μ-loop
+visit-inside-mark-requires : (t : ℕ) → visit-inside-lts.Need-mark-requires (close-reads.Asked, close-reads.Learnt, move-to-reads.Asked, move-to-reads.Learnt, blanks-end-reads.Asked, blanks-end-reads.Learnt, item-at-reads.Asked, item-at-reads.Learnt, child-at-reads.Asked, child-at-reads.Learnt, is-over-reads.Asked, is-over-reads.Learnt, visit-below t, visit.Post, mark-reads.Asked, mark-reads.Learnt) (visit-inside-at t) visit-inside.Post visit-inside-Inv-loop visit-inside-μ-loop
 visit-inside-mark-requires t c κs = search needs
 
-visit-inside-loop-less-3 : (t : ℕ) → visit-inside-lts.Need-loop-less-3 (none-seen-reads.Asked, none-seen-reads.Learnt, close-reads.Asked, close-reads.Learnt, move-to-reads.Asked, move-to-reads.Learnt, blanks-end-reads.Asked, blanks-end-reads.Learnt, item-at-reads.Asked, item-at-reads.Learnt, child-at-reads.Asked, child-at-reads.Learnt, is-over-reads.Asked, is-over-reads.Learnt, visit-below t, visit.Post, mark-reads.Asked, mark-reads.Learnt) (visit-inside-at t) visit-inside.Post visit-inside-Inv-loop visit-inside-μ-loop
-visit-inside-loop-less-3 t c = let l = low-of isBlank (c .before .before .before .before .before .before .before .before .before .before .before .before .before .before .before .before .before .before .before .before .before .args .file .now) (c .before .before .before .before .before .before .before .before .before .before .before .before .before .loop .all .at) _ (c .before .before .before .before .before .before .before .before .before .before .blanks-end .ensures) in
-    let h = skipped-bounds (c .before .before .before .before .before .before .before .before .before .before .before .before .before .before .before .before .before .before .before .before .before .args .file .now) (c .before .before .before .before .before .before .before .before .before .before .blanks-end .result) (item-from (c .before .before .before .before .before .before .before .before .before .before .before .before .before .before .before .before .before .before .before .before .before .args .file .now) _ Item.Child (sym (c .before .before .before .before .before .before .before .enum-told2 .given .1) ∙ c .before .before .before .before .before .before .before .before .before .item-at .ensures)) in
+visit-inside-loop-less-3 : (t : ℕ) → visit-inside-lts.Need-loop-less-3 (close-reads.Asked, close-reads.Learnt, move-to-reads.Asked, move-to-reads.Learnt, blanks-end-reads.Asked, blanks-end-reads.Learnt, item-at-reads.Asked, item-at-reads.Learnt, child-at-reads.Asked, child-at-reads.Learnt, is-over-reads.Asked, is-over-reads.Learnt, visit-below t, visit.Post, mark-reads.Asked, mark-reads.Learnt) (visit-inside-at t) visit-inside.Post visit-inside-Inv-loop visit-inside-μ-loop
+visit-inside-loop-less-3 t c = let l = low-of isBlank (c .before .before .before .before .before .before .before .before .before .before .before .before .before .before .before .before .before .before .before .before .args .file .now) (c .before .before .before .before .before .before .before .before .before .before .before .before .before .loop .all .at) _ (c .before .before .before .before .before .before .before .before .before .before .blanks-end .ensures) in
+    let h = skipped-bounds (c .before .before .before .before .before .before .before .before .before .before .before .before .before .before .before .before .before .before .before .before .args .file .now) (c .before .before .before .before .before .before .before .before .before .before .blanks-end .result) (item-from (c .before .before .before .before .before .before .before .before .before .before .before .before .before .before .before .before .before .before .before .before .args .file .now) _ Item.Child (sym (c .before .before .before .before .before .before .before .enum-told2 .given .1) ∙ c .before .before .before .before .before .before .before .before .before .item-at .ensures)) in
     omega (arith, h .0, h .1, l, c .before .before .before .visit .ensures .ends, c .before .before .before .before .before .before .before .before .before .before .before .if1 .taken)
 
-visit-inside-loop-again-3 : (t : ℕ) → visit-inside-lts.Need-loop-again-3 (none-seen-reads.Asked, none-seen-reads.Learnt, close-reads.Asked, close-reads.Learnt, move-to-reads.Asked, move-to-reads.Learnt, blanks-end-reads.Asked, blanks-end-reads.Learnt, item-at-reads.Asked, item-at-reads.Learnt, child-at-reads.Asked, child-at-reads.Learnt, is-over-reads.Asked, is-over-reads.Learnt, visit-below t, visit.Post, mark-reads.Asked, mark-reads.Learnt) (visit-inside-at t) visit-inside.Post visit-inside-Inv-loop visit-inside-μ-loop
+visit-inside-loop-again-3 : (t : ℕ) → visit-inside-lts.Need-loop-again-3 (close-reads.Asked, close-reads.Learnt, move-to-reads.Asked, move-to-reads.Learnt, blanks-end-reads.Asked, blanks-end-reads.Learnt, item-at-reads.Asked, item-at-reads.Learnt, child-at-reads.Asked, child-at-reads.Learnt, is-over-reads.Asked, is-over-reads.Learnt, visit-below t, visit.Post, mark-reads.Asked, mark-reads.Learnt) (visit-inside-at t) visit-inside.Post visit-inside-Inv-loop visit-inside-μ-loop
 unfolding found
-visit-inside-loop-again-3 t c = (inner-child (c .before .before .before .before .before .before .before .before .before .before .before .before .before .before .before .before .before .before .before .before .before .args .file .now) _ _ _ _ _ _ _ _ (inner-passed (c .before .before .before .before .before .before .before .before .before .before .before .before .before .before .before .before .before .before .before .before .before .args .file .now) _ _ _ _ _ _ _ _ (c .before .before .before .before .before .before .before .before .before .before .before .before .before .loop .all .at) (c .before .before .before .before .before .before .before .before .before .before .before .before .before .loop .inv .0) (c .before .before .before .before .before .before .before .before .before .before .blanks-end .ensures) Item.Child (sym (c .before .before .before .before .before .before .before .enum-told2 .given .1) ∙ c .before .before .before .before .before .before .before .before .before .item-at .ensures)) (c .before .before .before .before .before .before .before .before .before .before .before .before .before .before .before .before .before .before .before .before .before .pre .1 .0 .shallow) _ _ _ _ _ (sym (c .before .before .before .before .before .before .before .enum-told2 .given .1) ∙ c .before .before .before .before .before .before .before .before .before .item-at .ensures) (c .before .before .before .before .before .before .child-at .ensures .0) (c .before .before .before .before .before .is-over .ensures) (c .before .before .before .visit .ensures .walks) (c .mark .ensures) (c .before .before .before .visit .ensures .ends), c .before .before .before .visit .kept .1 .1 .1 .1 .1 .0 ∙ c .before .before .before .before .before .before .before .before .before .before .before .before .before .loop .inv .1, c .before .before .before .visit .ensures .sound)
+visit-inside-loop-again-3 t c = (inner-child (c .before .before .before .before .before .before .before .before .before .before .before .before .before .before .before .before .before .before .before .before .args .file .now) _ _ _ _ _ _ _ _ (inner-passed (c .before .before .before .before .before .before .before .before .before .before .before .before .before .before .before .before .before .before .before .before .args .file .now) _ _ _ _ _ _ _ _ (c .before .before .before .before .before .before .before .before .before .before .before .before .before .loop .all .at) (c .before .before .before .before .before .before .before .before .before .before .before .before .before .loop .inv .0) (c .before .before .before .before .before .before .before .before .before .before .blanks-end .ensures) Item.Child (sym (c .before .before .before .before .before .before .before .enum-told2 .given .1) ∙ c .before .before .before .before .before .before .before .before .before .item-at .ensures)) (c .before .before .before .before .before .before .before .before .before .before .before .before .before .before .before .before .before .before .before .before .pre .1 .0 .shallow) _ _ _ _ _ (sym (c .before .before .before .before .before .before .before .enum-told2 .given .1) ∙ c .before .before .before .before .before .before .before .before .before .item-at .ensures) (c .before .before .before .before .before .before .child-at .ensures .0) (c .before .before .before .before .before .is-over .ensures) (c .before .before .before .visit .ensures .walks) (c .mark .ensures) (c .before .before .before .visit .ensures .ends), c .before .before .before .visit .kept .1 .1 .1 .1 .1 .0 ∙ c .before .before .before .before .before .before .before .before .before .before .before .before .before .loop .inv .1, c .before .before .before .visit .ensures .sound)
 
-visit-inside-enum-known-e : (t : ℕ) → visit-inside-lts.Need-enum-known-e (none-seen-reads.Asked, none-seen-reads.Learnt, close-reads.Asked, close-reads.Learnt, move-to-reads.Asked, move-to-reads.Learnt, blanks-end-reads.Asked, blanks-end-reads.Learnt, item-at-reads.Asked, item-at-reads.Learnt, child-at-reads.Asked, child-at-reads.Learnt, is-over-reads.Asked, is-over-reads.Learnt, visit-below t, visit.Post, mark-reads.Asked, mark-reads.Learnt) (visit-inside-at t) visit-inside.Post visit-inside-Inv-loop visit-inside-μ-loop
+visit-inside-enum-known-e : (t : ℕ) → visit-inside-lts.Need-enum-known-e (close-reads.Asked, close-reads.Learnt, move-to-reads.Asked, move-to-reads.Learnt, blanks-end-reads.Asked, blanks-end-reads.Learnt, item-at-reads.Asked, item-at-reads.Learnt, child-at-reads.Asked, child-at-reads.Learnt, is-over-reads.Asked, is-over-reads.Learnt, visit-below t, visit.Post, mark-reads.Asked, mark-reads.Learnt) (visit-inside-at t) visit-inside.Post visit-inside-Inv-loop visit-inside-μ-loop
 visit-inside-enum-known-e t c = search needs
 
-visit-inside-close-requires-3 : (t : ℕ) → visit-inside-lts.Need-close-requires-3 (none-seen-reads.Asked, none-seen-reads.Learnt, close-reads.Asked, close-reads.Learnt, move-to-reads.Asked, move-to-reads.Learnt, blanks-end-reads.Asked, blanks-end-reads.Learnt, item-at-reads.Asked, item-at-reads.Learnt, child-at-reads.Asked, child-at-reads.Learnt, is-over-reads.Asked, is-over-reads.Learnt, visit-below t, visit.Post, mark-reads.Asked, mark-reads.Learnt) (visit-inside-at t) visit-inside.Post visit-inside-Inv-loop visit-inside-μ-loop
+visit-inside-close-requires-3 : (t : ℕ) → visit-inside-lts.Need-close-requires-3 (close-reads.Asked, close-reads.Learnt, move-to-reads.Asked, move-to-reads.Learnt, blanks-end-reads.Asked, blanks-end-reads.Learnt, item-at-reads.Asked, item-at-reads.Learnt, child-at-reads.Asked, child-at-reads.Learnt, is-over-reads.Asked, is-over-reads.Learnt, visit-below t, visit.Post, mark-reads.Asked, mark-reads.Learnt) (visit-inside-at t) visit-inside.Post visit-inside-Inv-loop visit-inside-μ-loop
 visit-inside-close-requires-3 t c κs = search needs
 
-visit-inside-same-length : (t : ℕ) → visit-inside-lts.Need-same-length (none-seen-reads.Asked, none-seen-reads.Learnt, close-reads.Asked, close-reads.Learnt, move-to-reads.Asked, move-to-reads.Learnt, blanks-end-reads.Asked, blanks-end-reads.Learnt, item-at-reads.Asked, item-at-reads.Learnt, child-at-reads.Asked, child-at-reads.Learnt, is-over-reads.Asked, is-over-reads.Learnt, visit-below t, visit.Post, mark-reads.Asked, mark-reads.Learnt) (visit-inside-at t) visit-inside.Post visit-inside-Inv-loop visit-inside-μ-loop
+visit-inside-same-length : (t : ℕ) → visit-inside-lts.Need-same-length (close-reads.Asked, close-reads.Learnt, move-to-reads.Asked, move-to-reads.Learnt, blanks-end-reads.Asked, blanks-end-reads.Learnt, item-at-reads.Asked, item-at-reads.Learnt, child-at-reads.Asked, child-at-reads.Learnt, is-over-reads.Asked, is-over-reads.Learnt, visit-below t, visit.Post, mark-reads.Asked, mark-reads.Learnt) (visit-inside-at t) visit-inside.Post visit-inside-Inv-loop visit-inside-μ-loop
 visit-inside-same-length t c = c .before .before .before .before .before .before .before .before .loop .inv .1
 
-visit-inside-returns : (t : ℕ) → visit-inside-lts.Need-returns (none-seen-reads.Asked, none-seen-reads.Learnt, close-reads.Asked, close-reads.Learnt, move-to-reads.Asked, move-to-reads.Learnt, blanks-end-reads.Asked, blanks-end-reads.Learnt, item-at-reads.Asked, item-at-reads.Learnt, child-at-reads.Asked, child-at-reads.Learnt, is-over-reads.Asked, is-over-reads.Learnt, visit-below t, visit.Post, mark-reads.Asked, mark-reads.Learnt) (visit-inside-at t) visit-inside.Post visit-inside-Inv-loop visit-inside-μ-loop
+visit-inside-returns : (t : ℕ) → visit-inside-lts.Need-returns (close-reads.Asked, close-reads.Learnt, move-to-reads.Asked, move-to-reads.Learnt, blanks-end-reads.Asked, blanks-end-reads.Learnt, item-at-reads.Asked, item-at-reads.Learnt, child-at-reads.Asked, child-at-reads.Learnt, is-over-reads.Asked, is-over-reads.Learnt, visit-below t, visit.Post, mark-reads.Asked, mark-reads.Learnt) (visit-inside-at t) visit-inside.Post visit-inside-Inv-loop visit-inside-μ-loop
 unfolding found
-visit-inside-returns t c = inner-leaves (c .before .before .before .before .before .before .before .before .before .before .before .before .before .before .before .before .args .file .now) _ _ _ _ _ _ _ _ (inner-passed (c .before .before .before .before .before .before .before .before .before .before .before .before .before .before .before .before .args .file .now) _ _ _ _ _ _ _ _ (c .before .before .before .before .before .before .before .before .loop .all .at) (c .before .before .before .before .before .before .before .before .loop .inv .0) (c .before .before .before .before .before .blanks-end .ensures) (Item.Close _) (sym (c .before .before .e .given .1) ∙ c .before .before .before .before .item-at .ensures)) _ _ _ _ (sym (c .before .before .e .given .1) ∙ c .before .before .before .before .item-at .ensures) (c .close3 .ensures .0 (c .before .before .before .before .before .before .before .before .loop .words)) (c .close3 .ensures .1) (c .close3 .ensures .2) (sound-same _ _ _ (c .before .before .before .before .before .before .before .before .loop .inv .2) (c .close3 .ensures .3)) (ap (λ (r : FoundSoFar). visitBody (visitFrom (c .before .before .before .before .before .before .before .before .before .before .before .before .before .before .before .before .args .file .now) (c .before .before .before .before .before .before .before .before .before .before .before .before .before .before .before .before .args .left)) (c .before .before .before .before .before .before .before .before .before .before .before .before .before .before .before .before .args .file .now) (c .before .before .before .before .before .before .before .before .before .before .before .before .before .before .before .before .args .kind) r (contentAt (c .before .before .before .before .before .before .before .before .before .before .before .before .before .before .before .before .args .file .now) (c .before .before .before .before .before .before .before .before .before .before .before .before .before .before .before .before .args .entered .at))) (c .before .before .before .before .before .before .before .before .before .before .move-to .ensures .0 (c .before .before .before .before .before .before .before .before .before .before .before .before .before .before .before .before .args .words .now)))
+visit-inside-returns t c = inner-leaves (c .before .before .before .before .before .before .before .before .before .before .before .before .before .before .before .args .file .now) _ _ _ _ _ _ _ _ (inner-passed (c .before .before .before .before .before .before .before .before .before .before .before .before .before .before .before .args .file .now) _ _ _ _ _ _ _ _ (c .before .before .before .before .before .before .before .before .loop .all .at) (c .before .before .before .before .before .before .before .before .loop .inv .0) (c .before .before .before .before .before .blanks-end .ensures) (Item.Close _) (sym (c .before .before .e .given .1) ∙ c .before .before .before .before .item-at .ensures)) _ _ _ _ (sym (c .before .before .e .given .1) ∙ c .before .before .before .before .item-at .ensures) (c .close3 .ensures .0 (c .before .before .before .before .before .before .before .before .loop .words)) (c .close3 .ensures .1) (c .close3 .ensures .2) (sound-same _ _ _ (c .before .before .before .before .before .before .before .before .loop .inv .2) (c .close3 .ensures .3)) (ap (λ (r : FoundSoFar). visitBody (visitFrom (c .before .before .before .before .before .before .before .before .before .before .before .before .before .before .before .args .file .now) (c .before .before .before .before .before .before .before .before .before .before .before .before .before .before .before .args .left)) (c .before .before .before .before .before .before .before .before .before .before .before .before .before .before .before .args .file .now) (c .before .before .before .before .before .before .before .before .before .before .before .before .before .before .before .args .kind) r (contentAt (c .before .before .before .before .before .before .before .before .before .before .before .before .before .before .before .args .file .now) (c .before .before .before .before .before .before .before .before .before .before .before .before .before .before .before .args .entered .at))) (c .before .before .before .before .before .before .before .before .before .move-to .ensures .0 (c .before .before .before .before .before .before .before .before .before .before .before .before .before .before .before .args .words .now)))
 
-visit-inside-enum-told-3 : (t : ℕ) → visit-inside-lts.Need-enum-told-3 (none-seen-reads.Asked, none-seen-reads.Learnt, close-reads.Asked, close-reads.Learnt, move-to-reads.Asked, move-to-reads.Learnt, blanks-end-reads.Asked, blanks-end-reads.Learnt, item-at-reads.Asked, item-at-reads.Learnt, child-at-reads.Asked, child-at-reads.Learnt, is-over-reads.Asked, is-over-reads.Learnt, visit-below t, visit.Post, mark-reads.Asked, mark-reads.Learnt) (visit-inside-at t) visit-inside.Post visit-inside-Inv-loop visit-inside-μ-loop
+visit-inside-enum-told-3 : (t : ℕ) → visit-inside-lts.Need-enum-told-3 (close-reads.Asked, close-reads.Learnt, move-to-reads.Asked, move-to-reads.Learnt, blanks-end-reads.Asked, blanks-end-reads.Learnt, item-at-reads.Asked, item-at-reads.Learnt, child-at-reads.Asked, child-at-reads.Learnt, is-over-reads.Asked, is-over-reads.Learnt, visit-below t, visit.Post, mark-reads.Asked, mark-reads.Learnt) (visit-inside-at t) visit-inside.Post visit-inside-Inv-loop visit-inside-μ-loop
 visit-inside-enum-told-3 t c = search needs
 
-visit-inside-close-requires-4 : (t : ℕ) → visit-inside-lts.Need-close-requires-4 (none-seen-reads.Asked, none-seen-reads.Learnt, close-reads.Asked, close-reads.Learnt, move-to-reads.Asked, move-to-reads.Learnt, blanks-end-reads.Asked, blanks-end-reads.Learnt, item-at-reads.Asked, item-at-reads.Learnt, child-at-reads.Asked, child-at-reads.Learnt, is-over-reads.Asked, is-over-reads.Learnt, visit-below t, visit.Post, mark-reads.Asked, mark-reads.Learnt) (visit-inside-at t) visit-inside.Post visit-inside-Inv-loop visit-inside-μ-loop
+visit-inside-close-requires-4 : (t : ℕ) → visit-inside-lts.Need-close-requires-4 (close-reads.Asked, close-reads.Learnt, move-to-reads.Asked, move-to-reads.Learnt, blanks-end-reads.Asked, blanks-end-reads.Learnt, item-at-reads.Asked, item-at-reads.Learnt, child-at-reads.Asked, child-at-reads.Learnt, is-over-reads.Asked, is-over-reads.Learnt, visit-below t, visit.Post, mark-reads.Asked, mark-reads.Learnt) (visit-inside-at t) visit-inside.Post visit-inside-Inv-loop visit-inside-μ-loop
 visit-inside-close-requires-4 t c κs = search needs
 
-visit-inside-same-length-2 : (t : ℕ) → visit-inside-lts.Need-same-length-2 (none-seen-reads.Asked, none-seen-reads.Learnt, close-reads.Asked, close-reads.Learnt, move-to-reads.Asked, move-to-reads.Learnt, blanks-end-reads.Asked, blanks-end-reads.Learnt, item-at-reads.Asked, item-at-reads.Learnt, child-at-reads.Asked, child-at-reads.Learnt, is-over-reads.Asked, is-over-reads.Learnt, visit-below t, visit.Post, mark-reads.Asked, mark-reads.Learnt) (visit-inside-at t) visit-inside.Post visit-inside-Inv-loop visit-inside-μ-loop
+visit-inside-same-length-2 : (t : ℕ) → visit-inside-lts.Need-same-length-2 (close-reads.Asked, close-reads.Learnt, move-to-reads.Asked, move-to-reads.Learnt, blanks-end-reads.Asked, blanks-end-reads.Learnt, item-at-reads.Asked, item-at-reads.Learnt, child-at-reads.Asked, child-at-reads.Learnt, is-over-reads.Asked, is-over-reads.Learnt, visit-below t, visit.Post, mark-reads.Asked, mark-reads.Learnt) (visit-inside-at t) visit-inside.Post visit-inside-Inv-loop visit-inside-μ-loop
 visit-inside-same-length-2 t c = c .before .before .before .before .before .before .before .loop .inv .1
 
-visit-inside-returns-2 : (t : ℕ) → visit-inside-lts.Need-returns-2 (none-seen-reads.Asked, none-seen-reads.Learnt, close-reads.Asked, close-reads.Learnt, move-to-reads.Asked, move-to-reads.Learnt, blanks-end-reads.Asked, blanks-end-reads.Learnt, item-at-reads.Asked, item-at-reads.Learnt, child-at-reads.Asked, child-at-reads.Learnt, is-over-reads.Asked, is-over-reads.Learnt, visit-below t, visit.Post, mark-reads.Asked, mark-reads.Learnt) (visit-inside-at t) visit-inside.Post visit-inside-Inv-loop visit-inside-μ-loop
-visit-inside-returns-2 t c = absurd (inner-broken (c .before .before .before .before .before .before .before .before .before .before .before .before .before .before .before .args .file .now) _ _ _ _ _ _ _ _ (inner-passed (c .before .before .before .before .before .before .before .before .before .before .before .before .before .before .before .args .file .now) _ _ _ _ _ _ _ _ (c .before .before .before .before .before .before .before .loop .all .at) (c .before .before .before .before .before .before .before .loop .inv .0) (c .before .before .before .before .blanks-end .ensures) Item.Broken (sym (c .before .enum-told3 .given .1) ∙ c .before .before .before .item-at .ensures)) (sym (c .before .enum-told3 .given .1) ∙ c .before .before .before .item-at .ensures))
+visit-inside-returns-2 : (t : ℕ) → visit-inside-lts.Need-returns-2 (close-reads.Asked, close-reads.Learnt, move-to-reads.Asked, move-to-reads.Learnt, blanks-end-reads.Asked, blanks-end-reads.Learnt, item-at-reads.Asked, item-at-reads.Learnt, child-at-reads.Asked, child-at-reads.Learnt, is-over-reads.Asked, is-over-reads.Learnt, visit-below t, visit.Post, mark-reads.Asked, mark-reads.Learnt) (visit-inside-at t) visit-inside.Post visit-inside-Inv-loop visit-inside-μ-loop
+visit-inside-returns-2 t c = absurd (inner-broken (c .before .before .before .before .before .before .before .before .before .before .before .before .before .before .args .file .now) _ _ _ _ _ _ _ _ (inner-passed (c .before .before .before .before .before .before .before .before .before .before .before .before .before .before .args .file .now) _ _ _ _ _ _ _ _ (c .before .before .before .before .before .before .before .loop .all .at) (c .before .before .before .before .before .before .before .loop .inv .0) (c .before .before .before .before .blanks-end .ensures) Item.Broken (sym (c .before .enum-told3 .given .1) ∙ c .before .before .before .item-at .ensures)) (sym (c .before .enum-told3 .given .1) ∙ c .before .before .before .item-at .ensures))
 
-visit-inside-close-requires-5 : (t : ℕ) → visit-inside-lts.Need-close-requires-5 (none-seen-reads.Asked, none-seen-reads.Learnt, close-reads.Asked, close-reads.Learnt, move-to-reads.Asked, move-to-reads.Learnt, blanks-end-reads.Asked, blanks-end-reads.Learnt, item-at-reads.Asked, item-at-reads.Learnt, child-at-reads.Asked, child-at-reads.Learnt, is-over-reads.Asked, is-over-reads.Learnt, visit-below t, visit.Post, mark-reads.Asked, mark-reads.Learnt) (visit-inside-at t) visit-inside.Post visit-inside-Inv-loop visit-inside-μ-loop
+visit-inside-close-requires-5 : (t : ℕ) → visit-inside-lts.Need-close-requires-5 (close-reads.Asked, close-reads.Learnt, move-to-reads.Asked, move-to-reads.Learnt, blanks-end-reads.Asked, blanks-end-reads.Learnt, item-at-reads.Asked, item-at-reads.Learnt, child-at-reads.Asked, child-at-reads.Learnt, is-over-reads.Asked, is-over-reads.Learnt, visit-below t, visit.Post, mark-reads.Asked, mark-reads.Learnt) (visit-inside-at t) visit-inside.Post visit-inside-Inv-loop visit-inside-μ-loop
 visit-inside-close-requires-5 t c κs = search needs
 
-visit-inside-returns-3 : (t : ℕ) → visit-inside-lts.Need-returns-3 (none-seen-reads.Asked, none-seen-reads.Learnt, close-reads.Asked, close-reads.Learnt, move-to-reads.Asked, move-to-reads.Learnt, blanks-end-reads.Asked, blanks-end-reads.Learnt, item-at-reads.Asked, item-at-reads.Learnt, child-at-reads.Asked, child-at-reads.Learnt, is-over-reads.Asked, is-over-reads.Learnt, visit-below t, visit.Post, mark-reads.Asked, mark-reads.Learnt) (visit-inside-at t) visit-inside.Post visit-inside-Inv-loop visit-inside-μ-loop
-visit-inside-returns-3 t c = absurd (broken-none (c .before .before .before .before .before .before .args .file .now) _ _ _ (c .before .before .before .before .before .before .pre .1 .0) (sym (c .before .before .enum-told .given .1) ∙ c .before .before .before .before .before .before .pre .1 .2))
+visit-inside-returns-3 : (t : ℕ) → visit-inside-lts.Need-returns-3 (close-reads.Asked, close-reads.Learnt, move-to-reads.Asked, move-to-reads.Learnt, blanks-end-reads.Asked, blanks-end-reads.Learnt, item-at-reads.Asked, item-at-reads.Learnt, child-at-reads.Asked, child-at-reads.Learnt, is-over-reads.Asked, is-over-reads.Learnt, visit-below t, visit.Post, mark-reads.Asked, mark-reads.Learnt) (visit-inside-at t) visit-inside.Post visit-inside-Inv-loop visit-inside-μ-loop
+visit-inside-returns-3 t c = absurd (broken-none (c .before .before .before .before .before .args .file .now) _ _ _ (c .before .before .before .before .before .pre .1 .0) (sym (c .before .enum-told .given .1) ∙ c .before .before .before .before .before .pre .1 .2))
 
-visit-inside-returns-4 : (t : ℕ) → visit-inside-lts.Need-returns-4 (none-seen-reads.Asked, none-seen-reads.Learnt, close-reads.Asked, close-reads.Learnt, move-to-reads.Asked, move-to-reads.Learnt, blanks-end-reads.Asked, blanks-end-reads.Learnt, item-at-reads.Asked, item-at-reads.Learnt, child-at-reads.Asked, child-at-reads.Learnt, is-over-reads.Asked, is-over-reads.Learnt, visit-below t, visit.Post, mark-reads.Asked, mark-reads.Learnt) (visit-inside-at t) visit-inside.Post visit-inside-Inv-loop visit-inside-μ-loop
-visit-inside-returns-4 t c = empty-leaves (c .before .before .before .before .before .before .before .args .file .now) _ _ _ (c .before .before .before .before .before .before .before .pre .1 .0) _ _ _ _ _ _ (sym (c .before .before .before .body .given .1) ∙ c .before .before .before .before .before .before .before .pre .1 .2) (c .before .none-seen2 .ensures) (c .close2 .ensures .0 (c .before .before .before .before .before .before .before .args .words .now)) (c .close2 .ensures .1) (c .close2 .ensures .2) (sound-same _ _ _ (c .before .before .before .before .before .before .before .pre .1 .1) (c .close2 .ensures .3))
+visit-inside-returns-4 : (t : ℕ) → visit-inside-lts.Need-returns-4 (close-reads.Asked, close-reads.Learnt, move-to-reads.Asked, move-to-reads.Learnt, blanks-end-reads.Asked, blanks-end-reads.Learnt, item-at-reads.Asked, item-at-reads.Learnt, child-at-reads.Asked, child-at-reads.Learnt, is-over-reads.Asked, is-over-reads.Learnt, visit-below t, visit.Post, mark-reads.Asked, mark-reads.Learnt) (visit-inside-at t) visit-inside.Post visit-inside-Inv-loop visit-inside-μ-loop
+visit-inside-returns-4 t c = empty-leaves (c .before .before .before .before .before .before .args .file .now) _ _ _ (c .before .before .before .before .before .before .pre .1 .0) _ _ _ _ _ _ (sym (c .before .before .body .given .1) ∙ c .before .before .before .before .before .before .pre .1 .2) refl (c .close2 .ensures .0 (c .before .before .before .before .before .before .args .words .now)) (c .close2 .ensures .1) (c .close2 .ensures .2) (sound-same _ _ _ (c .before .before .before .before .before .before .pre .1 .1) (c .close2 .ensures .3))
 
-visit-inside-same-length-3 : (t : ℕ) → visit-inside-lts.Need-same-length-3 (none-seen-reads.Asked, none-seen-reads.Learnt, close-reads.Asked, close-reads.Learnt, move-to-reads.Asked, move-to-reads.Learnt, blanks-end-reads.Asked, blanks-end-reads.Learnt, item-at-reads.Asked, item-at-reads.Learnt, child-at-reads.Asked, child-at-reads.Learnt, is-over-reads.Asked, is-over-reads.Learnt, visit-below t, visit.Post, mark-reads.Asked, mark-reads.Learnt) (visit-inside-at t) visit-inside.Post visit-inside-Inv-loop visit-inside-μ-loop
+visit-inside-same-length-3 : (t : ℕ) → visit-inside-lts.Need-same-length-3 (close-reads.Asked, close-reads.Learnt, move-to-reads.Asked, move-to-reads.Learnt, blanks-end-reads.Asked, blanks-end-reads.Learnt, item-at-reads.Asked, item-at-reads.Learnt, child-at-reads.Asked, child-at-reads.Learnt, is-over-reads.Asked, is-over-reads.Learnt, visit-below t, visit.Post, mark-reads.Asked, mark-reads.Learnt) (visit-inside-at t) visit-inside.Post visit-inside-Inv-loop visit-inside-μ-loop
 visit-inside-same-length-3 t c = c .before .before .before .loop .inv .1
 
-visit-inside-returns-5 : (t : ℕ) → visit-inside-lts.Need-returns-5 (none-seen-reads.Asked, none-seen-reads.Learnt, close-reads.Asked, close-reads.Learnt, move-to-reads.Asked, move-to-reads.Learnt, blanks-end-reads.Asked, blanks-end-reads.Learnt, item-at-reads.Asked, item-at-reads.Learnt, child-at-reads.Asked, child-at-reads.Learnt, is-over-reads.Asked, is-over-reads.Learnt, visit-below t, visit.Post, mark-reads.Asked, mark-reads.Learnt) (visit-inside-at t) visit-inside.Post visit-inside-Inv-loop visit-inside-μ-loop
-visit-inside-returns-5 t c = absurd (inner-over (c .before .before .before .before .before .before .before .before .before .before .before .args .file .now) _ _ _ (c .before .before .before .loop .all .at) _ _ _ _ (c .before .before .before .loop .inv .0) (c .before .if1 .left))
+visit-inside-returns-5 : (t : ℕ) → visit-inside-lts.Need-returns-5 (close-reads.Asked, close-reads.Learnt, move-to-reads.Asked, move-to-reads.Learnt, blanks-end-reads.Asked, blanks-end-reads.Learnt, item-at-reads.Asked, item-at-reads.Learnt, child-at-reads.Asked, child-at-reads.Learnt, is-over-reads.Asked, is-over-reads.Learnt, visit-below t, visit.Post, mark-reads.Asked, mark-reads.Learnt) (visit-inside-at t) visit-inside.Post visit-inside-Inv-loop visit-inside-μ-loop
+visit-inside-returns-5 t c = absurd (inner-over (c .before .before .before .before .before .before .before .before .before .before .args .file .now) _ _ _ (c .before .before .before .loop .all .at) _ _ _ _ (c .before .before .before .loop .inv .0) (c .before .if1 .left))
 
 pub +visit+visit-inside-spec : {M : Type 1} → statement M
 +visit+visit-inside-spec = close μ-visit μ-visit-inside (λ t. visit-lts.spec (
@@ -317,8 +307,6 @@ pub +visit+visit-inside-spec : {M : Type 1} → statement M
     (visit-same-length-2 t)
     (visit-returns-4 t))
     λ t. visit-inside-lts.spec (
-      none-seen-reads.Asked,
-      none-seen-reads.Learnt,
       close-reads.Asked,
       close-reads.Learnt,
       move-to-reads.Asked,
@@ -341,14 +329,11 @@ pub +visit+visit-inside-spec : {M : Type 1} → statement M
     visit-inside-Inv-loop
     visit-inside-μ-loop
     (visit-inside-enum-told t)
-    (visit-inside-none-seen-requires t)
     (visit-inside-close-requires t)
     (visit-inside-enum-known-body t)
-    (visit-inside-none-seen-requires-2 t)
     (visit-inside-close-requires-2 t)
     (visit-inside-enum-known-body-2 t)
     (visit-inside-move-to-requires t)
-    (visit-inside-none-seen-requires-3 t)
     (visit-inside-loop-holds t)
     (visit-inside-blanks-end-requires t)
     (visit-inside-item-at-requires t)

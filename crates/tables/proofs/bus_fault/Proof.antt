@@ -15,12 +15,12 @@ slice-aggregate-lacks-first c = search needs
 lacks-first-requires : tie.Need-lacks-first-requires
 lacks-first-requires c κs = search needs
 
-first-bus-requires : tie.Need-first-bus-requires
-first-bus-requires c κs = search needs
+first-wrong-requires : tie.Need-first-wrong-requires
+first-wrong-requires c κs = search needs
 
 returns : tie.Need-returns
 unfolding busFault
-returns c = c .first-bus .ensures ∙ rw (sym (c .before .before .lacks-first .ensures) ∙ c .before .if1 .taken)
+returns c = c .first-wrong .ensures ∙ rw (sym (c .before .before .lacks-first .ensures) ∙ c .before .if1 .taken)
 
 no-refusal-requires : tie.Need-no-refusal-requires
 no-refusal-requires c κs = search needs
@@ -36,7 +36,7 @@ bus-fault-spec =
     cast-n
     slice-aggregate-lacks-first
     lacks-first-requires
-    first-bus-requires
+    first-wrong-requires
     returns
     no-refusal-requires
     returns-2)

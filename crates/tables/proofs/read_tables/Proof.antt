@@ -3,22 +3,17 @@
 use borrow.Author.Needs.{needs}
 use Rattle.tables.proofs.read_tables.Statement.{statement}
 use Rattle.tables.proofs.read_tables.Tie as tie
-use Rattle.tables.specs.RowsCode.{told}
 use Rattle.tables.specs.TablesCode.{tabled}
 
-tell-head-requires : tie.Need-tell-head-requires
-tell-head-requires c κs = search needs
-
-tell-names-requires : tie.Need-tell-names-requires
-tell-names-requires c κs = search needs
+tell-requires : tie.Need-tell-requires
+tell-requires c κs = search needs
 
 table-fault-requires : tie.Need-table-fault-requires
 table-fault-requires c κs = search needs
 
 returns : tie.Need-returns
-unfolding tabled told
-returns c = rw (c .table-fault .ensures, c .before .tell-names .ensures, c .before .before .tell-head .ensures)
+unfolding tabled
+returns c = rw (c .table-fault .ensures, c .before .tell .ensures)
 
 pub read-tables-spec : {M : Type 1} → statement M
-read-tables-spec =
-    tie.close (tie.spec tell-head-requires tell-names-requires table-fault-requires returns)
+read-tables-spec = tie.close (tie.spec tell-requires table-fault-requires returns)

@@ -25,11 +25,11 @@ has-bit-requires c κs = search needs
 
 returns-2 : tie.Need-returns-2
 unfolding attributeIn attributes
-returns-2 c = tested-in attributes attributeCount refl (knows (rulesOf (kindName (c .before .before .before .before .before .before .args .kind)))) _ _ (c .before .before .before .before .attribute-of .ensures) (c .before .before .before .if1 .left) _ (c .before .has-bit .ensures ∙ everywhere (hasBit _) (λ a. knows (rulesOf (kindName (c .before .before .before .before .before .before .args .kind))) (attributeName a)) attributeCount (c .before .before .all-of .ensures) _ (c .before .before .before .if1 .left)) (c .if2 .taken)
+returns-2 c = tested-in attributes attributeCount refl (knows (rulesOf (kindName (c .before .before .before .before .before .before .args .kind)))) _ _ (c .before .before .before .before .attribute-of .ensures) (c .before .before .before .if1 .left) _ (c .before .has-bit .ensures ∙ everywhere (hasBit _) (λ a. knows (rulesOf (kindName (c .before .before .before .before .before .before .args .kind))) (attributeName a)) attributeCount (c .before .before .all-of .ensures .0) _ (c .before .before .before .if1 .left)) (c .if2 .taken)
 
 returns-3 : tie.Need-returns-3
 unfolding attributeIn attributes
-returns-3 c = tested-out attributes attributeCount refl (knows (rulesOf (kindName (c .before .before .before .before .before .before .args .kind)))) _ _ (c .before .before .before .before .attribute-of .ensures) (c .before .before .before .if1 .left) _ (c .before .has-bit .ensures ∙ everywhere (hasBit _) (λ a. knows (rulesOf (kindName (c .before .before .before .before .before .before .args .kind))) (attributeName a)) attributeCount (c .before .before .all-of .ensures) _ (c .before .before .before .if1 .left)) (c .if2 .left)
+returns-3 c = tested-out attributes attributeCount refl (knows (rulesOf (kindName (c .before .before .before .before .before .before .args .kind)))) _ _ (c .before .before .before .before .attribute-of .ensures) (c .before .before .before .if1 .left) _ (c .before .has-bit .ensures ∙ everywhere (hasBit _) (λ a. knows (rulesOf (kindName (c .before .before .before .before .before .before .args .kind))) (attributeName a)) attributeCount (c .before .before .all-of .ensures .0) _ (c .before .before .before .if1 .left)) (c .if2 .left)
 
 pub attribute-in-spec : {M : Type 1} → statement M
 attribute-in-spec =

@@ -5,18 +5,12 @@ use Rattle.schema.proofs.names.is_attribute.Statement.{statement}
 use Rattle.schema.proofs.names.is_attribute.Tie as tie
 use mathlib.Core.Path.{refl, ap, _∙_}
 use mathlib.Core.List.{List}
-use Prim.Native.Nat.{ℕ, _+_, _<_, _≤_}
+use Prim.Native.Nat.{ℕ}
 use native.Mathlib.Omega.{arith}
-use lib.ListN.{length}
 use Rattle.text.specs.Texts.{bytes, same}
-use Rattle.schema.specs.SchemaCode.{attributeCount, attributes, nameIn, inRow, startOf, part}
+use Rattle.schema.specs.SchemaCode.{attributeCount, attributes, nameIn, inRow}
 use Rattle.lists.specs.BitsCode.{from}
-use Rattle.lists.proofs.BitLaws.{everywhere}
-use Rattle.schema.proofs.Tables.{at-most}
-
-rises : (k : ℕ) → k < attributeCount → startOf attributes k ≤ startOf attributes (k + 1)
-unfolding bytes attributes inRow from
-rises = at-most (startOf attributes) (λ k. startOf attributes (k + 1)) attributeCount refl
+use Rattle.schema.proofs.Tables.{row-bounds, row-part}
 
 attribute-start-requires : tie.Need-attribute-start-requires
 attribute-start-requires c κs = search needs
@@ -28,21 +22,23 @@ attribute-start-requires-2 : tie.Need-attribute-start-requires-2
 attribute-start-requires-2 c κs = search needs
 
 sub-same-text : tie.Need-sub-same-text
-sub-same-text c = omega (arith, c .before .attribute-start .ensures, c .attribute-start2 .ensures, rises (c .before .before .before .args .k) (c .before .before .before .pre))
+unfolding bytes attributes inRow from
+sub-same-text c = row-bounds attributes attributeCount _ _ _ (c .before .before .before .pre) (c .before .attribute-start .ensures) (c .attribute-start2 .ensures) refl .0
 
 part-same-text-start : tie.Need-part-same-text-start
-part-same-text-start c = omega (arith, c .before .before .attribute-start .ensures, c .before .attribute-start2 .ensures, rises (c .before .before .before .before .args .k) (c .before .before .before .before .pre))
+unfolding bytes attributes inRow from
+part-same-text-start c = let b = row-bounds attributes attributeCount _ _ _ (c .before .before .before .before .pre) (c .before .before .attribute-start .ensures) (c .before .attribute-start2 .ensures) refl in omega (arith, b .0, b .1)
 
 part-same-text-end : tie.Need-part-same-text-end
 unfolding bytes attributes inRow from
-part-same-text-end c = omega (arith, c .before .attribute-start2 .ensures, at-most (λ k. startOf attributes (k + 1)) (λ k. length (inRow attributes)) attributeCount refl (c .before .before .before .before .args .k) (c .before .before .before .before .pre))
+part-same-text-end c = let b = row-bounds attributes attributeCount _ _ _ (c .before .before .before .before .pre) (c .before .before .attribute-start .ensures) (c .before .attribute-start2 .ensures) refl in omega (arith, b .0, b .1)
 
 same-text-requires : tie.Need-same-text-requires
 same-text-requires c κs = search needs
 
 returns : tie.Need-returns
 unfolding bytes attributes nameIn inRow from
-returns c = c .same-text .ensures ∙ rw (c .before .before .before .attribute-start2 .ensures, c .before .before .before .before .attribute-start .ensures) (ap (λ (s : List ℕ). same s (c .before .before .before .before .before .before .args .name .now)) (everywhere (part attributes) (nameIn attributes) attributeCount refl (c .before .before .before .before .before .before .args .k) (c .before .before .before .before .before .before .pre)))
+returns c = c .same-text .ensures ∙ ap (λ (s : List ℕ). same s (c .before .before .before .before .before .before .args .name .now)) (row-part attributes attributeCount _ _ _ (c .before .before .before .before .before .before .pre) (c .before .before .before .before .attribute-start .ensures) (c .before .before .before .attribute-start2 .ensures) refl)
 
 pub is-attribute-spec : {M : Type 1} → statement M
 is-attribute-spec =

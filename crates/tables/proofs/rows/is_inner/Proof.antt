@@ -3,23 +3,18 @@
 use borrow.Author.Needs.{needs}
 use Rattle.tables.proofs.rows.is_inner.Statement.{statement}
 use Rattle.tables.proofs.rows.is_inner.Tie as tie
-use mathlib.Core.Path.{sym, _∙_}
 use Rattle.text.specs.Texts.{bytes}
 use Rattle.schema.specs.SchemaCode.{names, nameIn}
 
 is-in-requires : tie.Need-is-in-requires
 is-in-requires c κs = search needs
 
-returns : tie.Need-returns
-unfolding names nameIn bytes
-returns c = rw (sym (c .before .is-in .ensures) ∙ c .if1 .taken)
-
 is-in-requires-2 : tie.Need-is-in-requires-2
 is-in-requires-2 c κs = search needs
 
-returns-2 : tie.Need-returns-2
+returns : tie.Need-returns
 unfolding names nameIn bytes
-returns-2 c = c .is-in2 .ensures ∙ rw (sym (c .before .before .is-in .ensures) ∙ c .before .if1 .left)
+returns c = rw (c .before .is-in .ensures, c .is-in2 .ensures)
 
 pub is-inner-spec : {M : Type 1} → statement M
-is-inner-spec = tie.close (tie.spec is-in-requires returns is-in-requires-2 returns-2)
+is-inner-spec = tie.close (tie.spec is-in-requires is-in-requires-2 returns)
