@@ -92,8 +92,7 @@ enum steamfiddle_refusal {
      12      a word in an expression names no trigger                    the EXPRESSION
      13      `plan` is too short                                         words needed
 
-   An element's place is the offset of its `<` in the file. The call needs STEAMFIDDLE_CONVERT_STACK bytes of stack: on a desktop more than some
-   thread libraries give by default. */
+   An element's place is the offset of its `<` in the file. The call needs STEAMFIDDLE_CONVERT_STACK bytes of stack, beside what its thread needs. */
 uint64_t steamfiddle_convert(const uint8_t *file, size_t file_len, uint32_t *plan, size_t plan_len);
 
 /* ---- Plans: libsteamfiddle_logger.a
