@@ -3,9 +3,11 @@
 // The root answers what the loader asks of code; run: what code gives on the triggers' states.
 // Promises: both answer as specs/Code.antt says, for any words; code that is ok never faults, whatever the states (`sound_code_lem`, proofs/Sound.antt).
 // May not touch: what it is lent. It knows nothing of plans, events and files.
+#![tactic(auto)]
+
 ghost use Rattle.std.specs.Prelude.{◌≡◌};
 ghost use Rattle.code.specs.Code.{limit};
-ghost use Rattle.code.specs.HeightsCode.{rise as riseTo, sound_code};
+ghost use Rattle.code.specs.HeightsCode.{rise as rise_to, sound_code};
 ghost use Rattle.code.specs.LevelCode.{level_of};
 
 pub mod run;
@@ -14,14 +16,14 @@ pub mod run;
 pub const LIMIT: usize = 24;
 
 // What code gives on the triggers' states.
-#[derive(Drop)]
+#[derive(Clone, Copy)]
 pub enum Value {
     Is(bool),
     Fault,
 }
 
 // A height of the stack, or that a word is at fault.
-#[derive(Drop)]
+#[derive(Clone, Copy)]
 enum Level {
     To(usize),
     Fault,
@@ -29,7 +31,7 @@ enum Level {
 
 // How high a stack of height h stands after a word.
 fn rise(w: u32, h: usize, triggers: u32) -> Level
-    ensures { result ≡ level_of (riseTo limit triggers w h) }
+    ensures { result ≡ level_of (rise_to limit triggers w h) }
 {
     match w {
         0..=31 => {

@@ -11,7 +11,7 @@ use crate::Value;
 const LIMIT: usize = crate::LIMIT;
 
 // A stack of truth values: h of them, as bits of a number, the top in the lowest.
-#[derive(Drop)]
+#[derive(Clone, Copy)]
 struct Stack {
     h: usize,
     bits: u32,

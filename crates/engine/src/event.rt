@@ -17,7 +17,7 @@ use loader::Layout;
 use steps::{admission, endings};
 
 // The engine's state but for the times of the last firings, which are lent: most of its bytes are theirs, and by value they would be copied at each call.
-#[derive(Drop)]
+#[derive(Clone, Copy)]
 pub struct Running {
     pub logging: Logging,
     pub ever: [bool; 32],
@@ -27,7 +27,7 @@ pub struct Running {
 }
 
 // What a call gives.
-#[derive(Drop)]
+#[derive(Clone, Copy)]
 pub struct Ran {
     pub answer: Answer,
     pub state: Running,
@@ -35,7 +35,7 @@ pub struct Ran {
 }
 
 // An answer and the state behind it.
-#[derive(Drop)]
+#[derive(Clone, Copy)]
 struct Stepped {
     answer: Answer,
     state: Running,

@@ -15,7 +15,7 @@ use records::sizes;
 use steps::logging;
 
 // The statements' truths; `ok` is false at a code fault.
-#[derive(Drop)]
+#[derive(Clone, Copy)]
 pub struct Evaluated {
     pub ok: bool,
     pub truth: [bool; 16],

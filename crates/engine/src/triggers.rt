@@ -13,14 +13,14 @@ use records::sizes;
 use steps::{matches, timeouts};
 
 // Which triggers fire at an event, and which are true then.
-#[derive(Drop)]
+#[derive(Clone, Copy)]
 pub struct Fired {
     pub fires: [bool; 32],
     pub states: [bool; 32],
 }
 
 // Whether a trigger fires, and whether it is true.
-#[derive(Drop)]
+#[derive(Clone, Copy)]
 struct Turn {
     fires: bool,
     on: bool,

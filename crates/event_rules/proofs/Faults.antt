@@ -1,5 +1,5 @@
 -- No plan in range answers 25: its code gives a value on all states, and no other refusal has that number.
-use Prim.Native.Nat.{ℕ}
+use Prim.Native.Nat.{ℕ, ◌<◌}
 use mathlib.Core.Path.{◌≡◌, refl, ap, sym, ◌∙◌}
 use mathlib.Core.List.{List, [], ◌∷◌, ◌++◌, map}
 use mathlib.Core.Bool.{Bool, true, false, not, ◌&&◌, cond, false≢true, and-false}
@@ -13,11 +13,14 @@ use Rattle.records.specs.Records as plans
 use Rattle.loader.specs.Plan.{Plan, statement_in, in_range}
 use Rattle.event_rules.specs.Types.{Logging, Engine, Counts, Answer, Outcome}
 use Rattle.event_rules.specs.declared.Answer.TheVariants as answers
-use Rattle.event_rules.specs.Rules.{Config, Event, frame, tick, Result, gives, faults, states, evaluated, acted, triggered, process}
+use Rattle.event_rules.specs.Rules.{Config, Event, Result, gives, faults, states, evaluated, acted, triggered, process}
 use Rattle.event_rules.specs.Calls.{event_refusal, answer_refusal, refused, closed, step, statement_of, config_of, Answers, by_plan, no_plan}
 use Rattle.event_rules.specs.History.{outcomes}
 use Rattle.event_rules.proofs.Outcomes.{refusal_range, not_refusal, process_cases, ProcessGives, given, fails, process_gives}
 use Rattle.lists.specs.Lists.{all}
+
+pub refusal_below_25 : (c : Config) (en : Engine) (k : Counts) (e : Event) → event_refusal c en k e < 25
+refusal_below_25 c en k e = omega (arith, (refusal_range c en k e).0)
 
 gives_not_faults : {a : Answer} {after : Engine} → gives a after ≡ faults → ⊥
 gives_not_faults q = let z : ◌≡◌ {A = ℕ} 0 1 = cc in omega arith
@@ -35,9 +38,9 @@ pub code_in : (t : ℕ) (s : plans.PlanStatement) → statement_in t s ≡ true 
 unfolding statement_in
 code_in t s ok = true_if (sound_code t s.code) (λ e. false≢true (rw (e, and-false) at ok))
 
-pub statements_in_lem : (p : Plan) → in_range p ≡ true → all (statement_in (length p.triggers)) p.statements ≡ true
+pub statements_in_range : (p : Plan) → in_range p ≡ true → all (statement_in (length p.triggers)) p.statements ≡ true
 unfolding in_range
-statements_in_lem p ok = true_if (all (statement_in (length p.triggers)) p.statements) (λ e. false≢true (rw (e, and-false) at ok))
+statements_in_range p ok = true_if (all (statement_in (length p.triggers)) p.statements) (λ e. false≢true (rw (e, and-false) at ok))
 
 -- all expressions of such statements have values
 values : (t : ℕ) (ss : List plans.PlanStatement) → all (statement_in t) ss ≡ true → (now : List Bool)
@@ -55,7 +58,7 @@ module _ (p : Plan) (ok : in_range p ≡ true) (en : Engine) where
   unfolding triggered
   triggered_runs e l q =
       let vs =
-      values (length p.triggers) p.statements (statements_in_lem p ok) (states p.triggers (not en.started) e en.fired) in
+      values (length p.triggers) p.statements (statements_in_range p ok) (states p.triggers (not en.started) e en.fired) in
       let gone : acted (config_of p) en l e (some vs.0) ≡ faults = rw vs.1 at q in
       gives_not_faults gone
 
@@ -70,7 +73,7 @@ module _ (p : Plan) (ok : in_range p ≡ true) (en : Engine) where
           → (cond b (closed en k r) (refused (event_refusal (config_of p) en k e) en k)).answer ≡ answers.Refused 25 → ⊥
       go true (given w after) runs q = none-ne-some (25, 0) (sym (not_refusal e w) ∙ ap answer_refusal q)
       go true fails runs q = runs refl
-      go false g runs q = let same : event_refusal (config_of p) en k e ≡ 25 = cc in omega (arith, (refusal_range (config_of p) en k e).0)
+      go false g runs q = let same : event_refusal (config_of p) en k e ≡ 25 = cc in omega (arith, refusal_below_25 (config_of p) en k e)
 
 -- so no history of such a plan has 25 among its answers
 pub history_never_25 : (p : Plan) → in_range p ≡ true

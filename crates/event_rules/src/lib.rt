@@ -3,9 +3,10 @@
 // Promises: specs/Rules.antt states the rules over a configuration, once, specs/Calls.antt an event call, specs/History.antt lists of calls; the theorems on
 // them stand in proofs/.
 // May not touch: anything; it has no code.
+#![tactic(auto)]
 
 // The logging state; an ending knows when it ends.
-#[derive(Drop)]
+#[derive(Clone, Copy)]
 pub enum Logging {
     Off,
     On,
@@ -14,7 +15,7 @@ pub enum Logging {
     Halted,
 }
 
-#[derive(Drop)]
+#[derive(Clone, Copy)]
 pub struct Frame {
     pub channel: u32,
     pub time: u64,
@@ -27,14 +28,14 @@ pub struct Frame {
 }
 
 // A trigger's last firing, if it ever fired.
-#[derive(Drop)]
+#[derive(Clone, Copy)]
 pub struct Firing {
     pub ever: bool,
     pub at: u64,
 }
 
 // The engine's state: last firings by trigger, last truths by statement, whether an event came to the triggers, the last accepted time.
-#[derive(Drop)]
+#[derive(Clone, Copy)]
 pub struct Engine {
     pub logging: Logging,
     pub fired: [Firing; 32],
@@ -44,7 +45,7 @@ pub struct Engine {
 }
 
 // The host's four counts.
-#[derive(Drop)]
+#[derive(Clone, Copy)]
 pub struct Counts {
     pub recorded: u32,
     pub idle: u32,
@@ -53,7 +54,7 @@ pub struct Counts {
 }
 
 // Refused holds the paper's number, 20 to 25; its place is 0.
-#[derive(Drop)]
+#[derive(Clone, Copy)]
 pub enum Answer {
     Recorded,
     Idle,
@@ -63,7 +64,7 @@ pub enum Answer {
     Refused(u32),
 }
 
-#[derive(Drop)]
+#[derive(Clone, Copy)]
 pub struct Outcome {
     pub answer: Answer,
     pub engine: Engine,

@@ -2,6 +2,8 @@
 //
 // Promises: answer, state and record are exactly as the engine's call by value gives them.
 // May not touch: anything but the record that is lent.
+#![tactic(auto)]
+
 ghost use Rattle.std.specs.Prelude.{◌≡◌};
 ghost use Rattle.event_rules.specs.Rules.{Event};
 ghost use Rattle.event_rules.specs.Calls.{Answers};

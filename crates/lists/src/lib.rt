@@ -2,6 +2,8 @@
 //
 // Promises: each law is said once, for any elements; `least`, `is_flagged` and `lacks_first` answer every input by their definitions.
 // May not touch: what the elements mean.
+#![tactic(auto)]
+
 ghost use Rattle.std.specs.Prelude.{◌≡◌, false, min, get_or};
 ghost use Rattle.lists.specs.FlagsCode.{lacks_first};
 

@@ -2,6 +2,8 @@
 //
 // Promises: `load` takes the words exactly if they are the layout of a plan in range, as specs/Plan.antt says it; it answers every input.
 // May not touch: files, events, the engine's state. It knows nothing of XML.
+#![tactic(auto)]
+
 ghost use Rattle.std.specs.Prelude.{◌≡◌, ◌^◌, ◌<◌, ◌≤◌, length, get_or};
 ghost use Rattle.records.specs.Records.{flag, timeout_word, trigger_words, effect_word, filter_words, timeout_in, id_top, cause_in, filter_in};
 ghost use Rattle.loader.specs.Plan.{Loads};
@@ -11,7 +13,7 @@ ghost use Rattle.loader.specs.ScanCode.{starts, trigger_ok, filter_ok, action_ok
 use records::{Cause, DLC_TOP, Filter, NEWEST, Timeout, sizes, words};
 
 // A kind of record, with the number that its ranges go by: channels, masks, triggers.
-#[derive(Drop)]
+#[derive(Clone, Copy)]
 pub enum Section {
     Triggers(u32),
     Filters(u32),
@@ -19,20 +21,20 @@ pub enum Section {
 }
 
 // Where a run of records ends, or that one of them is bad.
-#[derive(Drop)]
+#[derive(Clone, Copy)]
 pub enum Scan {
     At(usize),
     Bad,
 }
 
 // Where the filters and the statements of a plan begin.
-#[derive(Drop)]
+#[derive(Clone, Copy)]
 pub struct Layout {
     pub filters: usize,
     pub statements: usize,
 }
 
-#[derive(Drop)]
+#[derive(Clone, Copy)]
 pub enum Loaded {
     Taken(Layout),
     Refused,

@@ -1,8 +1,10 @@
-// The logger for C: loads a plan and replays events against it. The header is include/steamfiddle.h.
+// The logger for C: loads a plan and replays events against it. The header is include/steamfiddle.h; `logger_archive` has the symbols that C links.
 //
 // Promises: `steamfiddle_load` tells a plan from any other words; `steamfiddle_replay` answers any bytes as the rules of one event say, event by
 // event. Neither keeps anything between calls.
 // May not touch: files, XML.
+#![tactic(auto)]
+
 ghost use Rattle.std.specs.Prelude.{◌≡◌};
 ghost use Rattle.replay.specs.Replay.{events_answered, Replays};
 ghost use Rattle.logger_c.specs.Calls.{Loading, counts_of};
@@ -11,8 +13,7 @@ use event_rules::Counts;
 use loader::Loaded;
 
 // 0 where the words are a plan, else 20.
-#[unsafe(no_mangle)]
-pub extern "C" fn steamfiddle_load(plan: &[u32]) -> u32
+pub fn steamfiddle_load(plan: &[u32]) -> u32
     ensures { Loading plan.now result }
 {
     let loaded = loader::load(plan);
@@ -23,8 +24,7 @@ pub extern "C" fn steamfiddle_load(plan: &[u32]) -> u32
 }
 
 // Feeds a fresh engine with as many whole events as there is room for their answers, and answers how many.
-#[unsafe(no_mangle)]
-pub extern "C" fn steamfiddle_replay(
+pub fn steamfiddle_replay(
     plan: &[u32],
     events: &[u8],
     recorded: u32,

@@ -3,6 +3,8 @@
 // The root reads a record off its words; words: the words of one; sizes: how many it has, and the largest identifier.
 // Promises: each function answers by the definition of its record (specs/Records.antt), for every input.
 // May not touch: the plan as a whole. Which records make a plan is the loader's, where words go is the converter's.
+#![tactic(auto)]
+
 ghost use Rattle.std.specs.Prelude.{◌≡◌, get_or};
 ghost use Rattle.records.specs.RecordsCode.{timeout_at, trigger_at, effect_at, filter_at, action_at};
 
@@ -15,7 +17,7 @@ pub const NEWEST: u32 = 1;
 pub const DLC_TOP: u32 = 8;
 
 // What a trigger fires on.
-#[derive(Drop)]
+#[derive(Clone, Copy)]
 pub enum Cause {
     Id {
         channel: u32,
@@ -32,25 +34,25 @@ pub enum Cause {
     Startup,
 }
 
-#[derive(Drop)]
+#[derive(Clone, Copy)]
 pub enum Timeout {
     Forever,
     Ms(u32),
 }
 
-#[derive(Drop)]
+#[derive(Clone, Copy)]
 pub struct Trigger {
     pub cause: Cause,
     pub timeout: Timeout,
 }
 
-#[derive(Drop)]
+#[derive(Clone, Copy)]
 pub enum Effect {
     Pass,
     Stop,
 }
 
-#[derive(Drop)]
+#[derive(Clone, Copy)]
 pub struct Filter {
     pub effect: Effect,
     pub mask: u32,
@@ -61,7 +63,7 @@ pub struct Filter {
     pub longest: u32,
 }
 
-#[derive(Drop)]
+#[derive(Clone, Copy)]
 pub enum Action {
     StartLog,
     StopLog,

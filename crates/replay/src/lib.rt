@@ -4,6 +4,8 @@
 // Promises: `replay` answers any words, bytes of events, counts and room: each event as the rules of one event say for the plan that the words are,
 // on the state and the counts that the event before it left, or 20 where they are none (specs/Replay.antt). Bytes behind the last answer stay.
 // May not touch: files, XML. It reads plan words only where the loader took them.
+#![tactic(auto)]
+
 ghost use Rattle.std.specs.Prelude.{◌≡◌, ◌≤◌, length, replicate};
 ghost use Rattle.event_rules.specs.Calls.{fresh};
 ghost use Rattle.replay.specs.Wire.{event_at};

@@ -4,6 +4,8 @@
 // matches: frames against filters and triggers. timeouts: how long a trigger stays true. start: the fresh engine, and no counts.
 // Promises: each function is one line of the rules (crates/event_rules/specs/Rules.antt, Calls.antt), for every input.
 // May not touch: plan words.
+#![tactic(auto)]
+
 pub mod admission;
 pub mod endings;
 pub mod logging;

@@ -18,11 +18,11 @@ drop_one s i h = rw (add-one, drop-cons s i 0)
 pub span_more : (p : ℕ → Bool) (s : List ℕ) (i : ℕ) → i < length s → p (get_or s i 0) ≡ true
     → span_at p (drop i s) i ≡ span_at p (drop (i + 1) s) (i + 1)
 unfolding span_at
-span_more p s i h e = ap (λ (l : List ℕ). span_at p l i) (drop_one s i h) ∙ rw e
+span_more p s i h e = ap (λ (l : List ℕ). span_at p l i) (drop_one s i h) ∙ rw (e, span_at)
 
 pub span_here : (p : ℕ → Bool) (s : List ℕ) (i : ℕ) → i < length s → p (get_or s i 0) ≡ false → span_at p (drop i s) i ≡ i
 unfolding span_at
-span_here p s i h e = ap (λ (l : List ℕ). span_at p l i) (drop_one s i h) ∙ rw e
+span_here p s i h e = ap (λ (l : List ℕ). span_at p l i) (drop_one s i h) ∙ rw (e, span_at)
 
 pub span_end : (p : ℕ → Bool) (s : List ℕ) (i : ℕ) → length s ≤ i → span_at p (drop i s) i ≡ i
 unfolding span_at

@@ -1,6 +1,6 @@
 -- Paper 01, all sections: texts that it quotes, as the bytes that a file holds.
 use Prim.Native.String.{String}
-use Prim.Native.Char.{Char, code}
+use Prim.Native.Char.{code}
 use Rattle.std.specs.Prelude.{ℕ, List, [], ◌∷◌, Bool, true, false, ◌&&◌, eqb}
 
 unfoldable pub bytes : String → List ℕ
