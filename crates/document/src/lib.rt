@@ -3,6 +3,8 @@
 // Promises: `read_index` answers every file; where there is no refusal, every known element is at the front of the words that it was lent.
 // proofs/Laws.antt says that this is what crates/file_rules/specs/Document.antt says of its document.
 // May not touch: what the elements say together (names, channels, expressions): that is for the crates above.
+#![tactic(auto)]
+
 ghost use Rattle.std.specs.Prelude.{◌≡◌, ℕ, suc, ◌+◌, ◌≤◌, ◌<◌, List, ◌++◌, length, take};
 ghost use Rattle.shape.specs.declared.Shape.TheVariants.{Whole};
 ghost use Rattle.shape.specs.Shape.{Shaped};
@@ -31,14 +33,14 @@ const MOST: usize = 382 * 3 + 86 * ROW;
 pub const ROOM: usize = MOST + ROW + 3;
 
 // The first refusal (then there are no entries), and where the entries end.
-#[derive(Drop)]
+#[derive(Clone, Copy)]
 pub struct Found {
     pub fault: Refusal,
     pub end: usize,
 }
 
 // The walk so far: where it stands, the first refusal, where the entries end, and whether a required element lacks.
-#[derive(Drop)]
+#[derive(Clone, Copy)]
 pub struct Walk {
     pub at: usize,
     pub fault: Refusal,
@@ -47,21 +49,21 @@ pub struct Walk {
 }
 
 // The walk behind an element, and whether text that is no blank stands in the element.
-#[derive(Drop)]
+#[derive(Clone, Copy)]
 pub struct Inside {
     pub walk: Walk,
     pub stray: bool,
 }
 
 // What an element holds so far: how many (counted up to 64), and which kinds, as a set.
-#[derive(Drop)]
+#[derive(Clone, Copy)]
 pub struct Seen {
     pub count: usize,
     pub kinds: u64,
 }
 
 // An element by its name: its kind, and where the name ends.
-#[derive(Drop)]
+#[derive(Clone, Copy)]
 pub struct Named {
     pub kind: usize,
     pub to: usize,

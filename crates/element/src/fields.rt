@@ -13,7 +13,7 @@ use walk::{Body, Part, TagPart, pieces, tags, texts, trims};
 const LAST_CHANNEL: u32 = 4;
 
 // What a text says: is it read for its value and has none, and the number that it gives, else 0.
-#[derive(Drop)]
+#[derive(Clone, Copy)]
 pub struct Said {
     pub misspelt: bool,
     pub number: u32,

@@ -5,6 +5,8 @@
 // Promises: each answer is the function of the bytes that specs/ElementCode.antt gives, for every input; proofs/Laws.antt says that on a
 // well-shaped file these are the faults and values of crates/file_rules/specs/Element.antt.
 // May not touch: other elements. Which elements are known, and what their parent holds already, it is told.
+#![tactic(auto)]
+
 ghost use Rattle.std.specs.Prelude.{◌≡◌, ◌<◌};
 ghost use Rattle.walk.specs.WalkCode.{content_behind};
 ghost use Rattle.schema.specs.SchemaCode.{attribute_count};
@@ -21,7 +23,7 @@ use walk::{Body, TagPart, tags};
 
 // What the attributes of an element say: one is unknown or repeated (5), one has a bad value (6), one is not carried (7); by their numbers,
 // which are there, as a set, and what they are worth.
-#[derive(Drop)]
+#[derive(Clone, Copy)]
 pub struct Gathered {
     pub five: bool,
     pub six: bool,
@@ -31,7 +33,7 @@ pub struct Gathered {
 }
 
 // A start tag: its attributes, and what stands behind it.
-#[derive(Drop)]
+#[derive(Clone, Copy)]
 pub struct Tag {
     pub gathered: Gathered,
     pub body: Body,
@@ -59,7 +61,7 @@ fn put(g: Gathered, a: usize, w: Worth) -> Gathered
 
 // One attribute more, with its value. One that is unknown or repeated does not fit.
 fn judge(g: Gathered, kind: usize, name: &[u8], text: &[u8]) -> Gathered
-    ensures { result ≡ judged (rules_for kind) g (record { name = name.entry.now; value = text.now }) }
+    ensures { result ≡ judged (rules_for kind) g (record { name = name.now; value = text.now }) }
 {
     let a = attributes::attribute_in(kind, name);
     if (ATTRIBUTES <= a) | bits::has_bit(g.has, a) {

@@ -108,21 +108,21 @@ module _ (k : List (List ℕ)) (n : List ℕ) where
 
   bar_go : {q : State} → Tail q k n → {w s r : List ℕ} → Run is_blank w s (47 ∷ r) → go q s ≡ go (slash k) r
   bar_go {q} x {r = r} Run.none = go_live q 47 r x.bar
-  bar_go {q} x (Run.more {b} {s = s} t m) = go_live q b s (x.blank b t) ∙ bar_go tail_gap m
+  bar_go {q} x (Run.more {b} {s = s} t m) = go_live q b s (x.blank b t) ∙ bar_go {q = tag gap k n} tail_gap m
 
   gt_go : {q : State} → Tail q k n → {w s r : List ℕ} → Run is_blank w s (62 ∷ r) → go q s ≡ go (idle (inside n k)) r
   gt_go {q} x {r = r} Run.none = go_live q 62 r x.gt
-  gt_go {q} x (Run.more {b} {s = s} t m) = go_live q b s (x.blank b t) ∙ gt_go tail_gap m
+  gt_go {q} x (Run.more {b} {s = s} t m) = go_live q b s (x.blank b t) ∙ gt_go {q = tag gap k n} tail_gap m
 
   empty_go : {q : State} → Tail q k n → {l : List Attribute} {w s t r : List ℕ} → Attributes l s t → Run is_blank w t (47 ∷ 62 ∷ r)
       → go q s ≡ go (idle (zone_of k)) r
   empty_go x {r = r} Attributes.none m = bar_go x m ∙ go_live (slash k) 62 r refl
-  empty_go x (Attributes.more a l) m = attribute_go x a ∙ empty_go tail_valued l m
+  empty_go {q} x (Attributes.more a l) m = attribute_go x a ∙ empty_go {q = tag valued k n} tail_valued l m
 
   open_go : {q : State} → Tail q k n → {l : List Attribute} {w s t r : List ℕ} → Attributes l s t → Run is_blank w t (62 ∷ r)
       → go q s ≡ go (idle (inside n k)) r
   open_go x Attributes.none m = gt_go x m
-  open_go x (Attributes.more a l) m = attribute_go x a ∙ open_go tail_valued l m
+  open_go {q} x (Attributes.more a l) m = attribute_go x a ∙ open_go {q = tag valued k n} tail_valued l m
 
 -- the name of a start tag
 name_letters : (k : List (List ℕ)) (m : List ℕ) {w s r : List ℕ} → Run is_name w s r → go (tag name k m) s ≡ go (tag name k (m ++ w)) r

@@ -12,7 +12,7 @@ use Rattle.text.specs.Kinds.{is_blank, is_start, is_decl}
 use Rattle.text.specs.SpansCode.{span_at}
 use Rattle.lists.proofs.Cases.{by_cases, le_or_lt}
 use Rattle.text.proofs.Spans.{low_of, stop_of}
-use Rattle.shape.specs.MachineCode.{start, start_lt, decl, mark, mark_x, mark_xm, declared, closing as closingDecl, before, after, idle, lt, comment, bang, tag, name, bad, at}
+use Rattle.shape.specs.MachineCode.{start, start_lt, decl, mark, mark_x, mark_xm, declared, closing as closing_decl, before, after, idle, lt, comment, bang, tag, name, bad, at}
 use Rattle.shape.specs.ReadsCode.{Reads, Expects, single, outer}
 use Rattle.shape.proofs.Bytes.{kind_not, blank_60, start_33, decl_63}
 use Rattle.shape.proofs.Run.{at_step, at_dead, at_end, at_same, run_of}
@@ -28,15 +28,15 @@ module _ (s : List ℕ) (i : ℕ) (r : Step) where
   pub decl_l : Expects 108 s i r → Reads (single (decl mark_xm)) (single (decl declared)) s i r
   decl_l = reads_only (single (decl mark_xm)) (single (decl declared)) s i r (λ u. refl) (λ u a e. rw (ne_eqb _ _ e)) (λ u. refl)
 
-  pub decl_gt : Expects 62 s i r → Reads (single (decl closingDecl)) (single (idle before)) s i r
-  decl_gt = reads_only (single (decl closingDecl)) (single (idle before)) s i r (λ u. refl) (λ u a e. rw (ne_eqb _ _ e)) (λ u. refl)
+  pub decl_gt : Expects 62 s i r → Reads (single (decl closing_decl)) (single (idle before)) s i r
+  decl_gt = reads_only (single (decl closing_decl)) (single (idle before)) s i r (λ u. refl) (λ u a e. rw (ne_eqb _ _ e)) (λ u. refl)
 
 pub decl_text : (s : List ℕ) (i j : ℕ) (r : Step) → j ≡ span_at is_decl (drop i s) i → Expects 63 s j r
-    → Reads (single (decl declared)) (single (decl closingDecl)) s i r
+    → Reads (single (decl declared)) (single (decl closing_decl)) s i r
 decl_text s i j r e x =
     reads_behind s i j r (low_of is_decl s i j e)
     (λ a. run_of is_decl s i j e (decl declared) (λ b t. rw t))
-    (reads_byte (single (decl declared)) (single (decl closingDecl)) is_decl s j r (stop_of is_decl s i j e) (λ a. rw decl_63)
+    (reads_byte (single (decl declared)) (single (decl closing_decl)) is_decl s j r (stop_of is_decl s i j e) (λ a. rw decl_63)
     (λ a c t e. simp (t, ne_eqb _ _ e)) (λ a. refl) x)
 
 -- the very start

@@ -104,19 +104,19 @@ tag_stops Attributes.none x h = blanks_stop h.1 x
 tag_stops (Attributes.more (Spelled.attribute {b} t y n y₂ y₃ y₄) l) x h = blank_not_name b t
 
 -- comments
-pub remark_one : {s s' r r' : List ℕ} → s ≡ s' → Remark s ("-->" ▹ r) → Remark s' ("-->" ▹ r') → r ≡ r'
-remark_one e Remark.none Remark.none = same_rest (same_rest (same_rest e))
-remark_one e Remark.none (Remark.more t f m) = clash (eq-eqb _ 45 (sym (same_first e))) f
-remark_one e Remark.none (Remark.dash t f m) = clash (eq-eqb _ 45 (sym (same_first (same_rest e)))) f
-remark_one e (Remark.more t f m) Remark.none = clash (eq-eqb _ 45 (same_first e)) f
-remark_one e (Remark.more t f m) (Remark.more t' f' m') = remark_one (same_rest e) m m'
-remark_one e (Remark.more t f m) (Remark.dash t' f' m') = clash (eq-eqb _ 45 (same_first e)) f
-remark_one e (Remark.dash t f m) Remark.none = clash (eq-eqb _ 45 (same_first (same_rest e))) f
-remark_one e (Remark.dash t f m) (Remark.more t' f' m') = clash (eq-eqb _ 45 (sym (same_first e))) f'
-remark_one e (Remark.dash t f m) (Remark.dash t' f' m') = remark_one (same_rest (same_rest e)) m m'
+pub remark_one : {s s' r r' : List ℕ} → Remark s ("-->" ▹ r) → Remark s' ("-->" ▹ r') → s ≡ s' → r ≡ r'
+remark_one Remark.none Remark.none e = same_rest (same_rest (same_rest e))
+remark_one Remark.none (Remark.more t f m) e = clash (eq-eqb _ 45 (sym (same_first e))) f
+remark_one Remark.none (Remark.dash t f m) e = clash (eq-eqb _ 45 (sym (same_first (same_rest e)))) f
+remark_one (Remark.more t f m) Remark.none e = clash (eq-eqb _ 45 (same_first e)) f
+remark_one (Remark.more t f m) (Remark.more t' f' m') e = remark_one m m' (same_rest e)
+remark_one (Remark.more t f m) (Remark.dash t' f' m') e = clash (eq-eqb _ 45 (same_first e)) f
+remark_one (Remark.dash t f m) Remark.none e = clash (eq-eqb _ 45 (same_first (same_rest e))) f
+remark_one (Remark.dash t f m) (Remark.more t' f' m') e = clash (eq-eqb _ 45 (sym (same_first e))) f'
+remark_one (Remark.dash t f m) (Remark.dash t' f' m') e = remark_one m m' (same_rest (same_rest e))
 
 pub comment_one : {s s' r r' : List ℕ} → s ≡ s' → Comment s r → Comment s' r' → r ≡ r'
-comment_one e (Comment.comment m) (Comment.comment m') = remark_one (same_rest (same_rest (same_rest (same_rest e)))) m m'
+comment_one e (Comment.comment m) (Comment.comment m') = remark_one m m' (same_rest (same_rest (same_rest (same_rest e))))
 
 -- what a text begins with: 0 no `<`, 1 `</`, 2 `<!`, 3 `<?`, 4 any other markup
 abbrev choose : Bool → ℕ → ℕ → ℕ
@@ -151,33 +151,33 @@ lead_begins (begins {b} t) = simp (kind_not is_start b 47 start_47 t, kind_not i
 module _ {E : Node → List ℕ → List ℕ → Type 0}
     (one : (x x' : Node) (s s' r r' : List ℕ) → s ≡ s' → E x s r → E x' s' r' → (x ≡ x') × (r ≡ r'))
     (starting : (x : Node) (s r : List ℕ) → E x s r → Begins s) where
-  pub content_one : {i i' : Items} {s s' r r' : List ℕ} → s ≡ s' → Content E i s ("</" ▹ r) → Content E i' s' ("</" ▹ r')
+  pub content_one : {i i' : Items} {s s' r r' : List ℕ} → Content E i s ("</" ▹ r) → Content E i' s' ("</" ▹ r') → s ≡ s'
       → (i ≡ i') × (r ≡ r')
-  content_one e Content.none Content.none = (refl, same_rest (same_rest e))
-  content_one e Content.none (Content.text {b} {s = s} t m) = apart 1 0 refl e refl (lead_byte is_text b s text_60 t)
-  content_one e Content.none (Content.remark x m) = apart 1 2 refl e refl (lead_comment x)
-  content_one e Content.none (Content.child {x = x} {s = s} {t} y m) = apart 1 4 refl e refl (lead_begins (starting x s t y))
-  content_one e (Content.text {b} {s = s} t m) Content.none = apart 0 1 refl e (lead_byte is_text b s text_60 t) refl
-  content_one e (Content.text t m) (Content.text t' m') = let q = content_one (same_rest e) m m' in (same_text (same_first e) q.0, q.1)
+  content_one Content.none Content.none e = (refl, same_rest (same_rest e))
+  content_one Content.none (Content.text {b} {s = s} t m) e = apart 1 0 refl e refl (lead_byte is_text b s text_60 t)
+  content_one Content.none (Content.remark x m) e = apart 1 2 refl e refl (lead_comment x)
+  content_one Content.none (Content.child {x = x} {s = s} {t} y m) e = apart 1 4 refl e refl (lead_begins (starting x s t y))
+  content_one (Content.text {b} {s = s} t m) Content.none e = apart 0 1 refl e (lead_byte is_text b s text_60 t) refl
+  content_one (Content.text t m) (Content.text t' m') e = let q = content_one m m' (same_rest e) in (same_text (same_first e) q.0, q.1)
     where
       same_text : {b b' : ℕ} {i i' : Items} → b ≡ b' → i ≡ i' → Items.text b i ≡ Items.text b' i'
       same_text e f = cc
-  content_one e (Content.text {b} {s = s} t m) (Content.remark x m') = apart 0 2 refl e (lead_byte is_text b s text_60 t) (lead_comment x)
-  content_one e (Content.text {b} {s = s} t m) (Content.child {x = x} {s = s'} {t = u} y m') =
+  content_one (Content.text {b} {s = s} t m) (Content.remark x m') e = apart 0 2 refl e (lead_byte is_text b s text_60 t) (lead_comment x)
+  content_one (Content.text {b} {s = s} t m) (Content.child {x = x} {s = s'} {t = u} y m') e =
       apart 0 4 refl e (lead_byte is_text b s text_60 t) (lead_begins (starting x s' u y))
-  content_one e (Content.remark x m) Content.none = apart 2 1 refl e (lead_comment x) refl
-  content_one e (Content.remark x m) (Content.text {b} {s = s} t m') = apart 2 0 refl e (lead_comment x) (lead_byte is_text b s text_60 t)
-  content_one e (Content.remark x m) (Content.remark x' m') = let q = content_one (comment_one e x x') m m' in
+  content_one (Content.remark x m) Content.none e = apart 2 1 refl e (lead_comment x) refl
+  content_one (Content.remark x m) (Content.text {b} {s = s} t m') e = apart 2 0 refl e (lead_comment x) (lead_byte is_text b s text_60 t)
+  content_one (Content.remark x m) (Content.remark x' m') e = let q = content_one m m' (comment_one e x x') in
       (ap Items.remark q.0, q.1)
-  content_one e (Content.remark x m) (Content.child {x = y} {s = s} {t} z m') =
+  content_one (Content.remark x m) (Content.child {x = y} {s = s} {t} z m') e =
       apart 2 4 refl e (lead_comment x) (lead_begins (starting y s t z))
-  content_one e (Content.child {x = x} {s = s} {t} y m) Content.none = apart 4 1 refl e (lead_begins (starting x s t y)) refl
-  content_one e (Content.child {x = x} {s = s} {t} y m) (Content.text {b} {s = u} h m') =
+  content_one (Content.child {x = x} {s = s} {t} y m) Content.none e = apart 4 1 refl e (lead_begins (starting x s t y)) refl
+  content_one (Content.child {x = x} {s = s} {t} y m) (Content.text {b} {s = u} h m') e =
       apart 4 0 refl e (lead_begins (starting x s t y)) (lead_byte is_text b u text_60 h)
-  content_one e (Content.child {x = x} {s = s} {t} y m) (Content.remark z m') =
+  content_one (Content.child {x = x} {s = s} {t} y m) (Content.remark z m') e =
       apart 4 2 refl e (lead_begins (starting x s t y)) (lead_comment z)
-  content_one e (Content.child {x = x} {s = s} {t} y m) (Content.child {x = x'} {s = s'} {t = t'} y' m') = let q =
-      one x x' s s' t t' e y y' in let k = content_one q.1 m m' in (same_child q.0 k.0, k.1)
+  content_one (Content.child {x = x} {s = s} {t} y m) (Content.child {x = x'} {s = s'} {t = t'} y' m') e = let q =
+      one x x' s s' t t' e y y' in let k = content_one m m' q.1 in (same_child q.0 k.0, k.1)
     where
       same_child : {x x' : Node} {i i' : Items} → x ≡ x' → i ≡ i' → Items.child x i ≡ Items.child x' i'
       same_child e f = cc
@@ -203,7 +203,7 @@ module _ {E : Node → List ℕ → List ℕ → Type 0}
   element_of_one size e (ElementOf.full {n = w} {s₄ = s₄} n a b c d) (ElementOf.full {n = w'} {s₄ = s₄'} n' a' b' c' d') =
       let q = name_one (same_rest e) n n' (tag_stops a b (blank_62, name_62)) (tag_stops a' b' (blank_62, name_62)) in
       let k = attributes_one q.1 a a' b b' (blank_62, name_62) (blank_62, name_62) in
-      let i = content_one (same_rest k.1) c c' in
+      let i = content_one c c' (same_rest k.1) in
       let j = append_cancel w (i.1 ∙ ap (λ (u : List ℕ). u ++ s₄') (sym q.0)) in
       let v = run_one j d d' blank_62 blank_62 in
       (same_node (ap (λ (u : List ℕ). size - length u) e) q.0 k.0 i.0, same_rest v.1)

@@ -3,9 +3,10 @@
 // Promises: specs/Shape.antt and specs/Text.antt are what a reader must believe. proofs/Viability.antt, `by_run`: where the machine that reads
 // byte by byte stops is what Shape.antt says of the file; proofs/OneDoc.antt, `one_doc`: a text spells at most one document.
 // May not touch: what an element means. It knows no element's name, and has no code.
+#![tactic(auto)]
 
 // A file's shape. Broken: some well-shaped text starts with this many of its bytes, and none with more.
-#[derive(Drop)]
+#[derive(Clone, Copy)]
 pub enum Shape {
     Whole,
     TooLong,
@@ -13,14 +14,14 @@ pub enum Shape {
 }
 
 // Where reading came to, or how many bytes can stand.
-#[derive(Drop)]
+#[derive(Clone, Copy)]
 pub enum Step {
     At(usize),
     Bad(usize),
 }
 
 // What a start tag ends as: open, for content, or empty.
-#[derive(Drop)]
+#[derive(Clone, Copy)]
 pub enum Tag {
     Open(usize),
     Empty(usize),
@@ -28,7 +29,7 @@ pub enum Tag {
 }
 
 // What stands next in an element: more content, its end tag, a child, or what cannot stand.
-#[derive(Drop)]
+#[derive(Clone, Copy)]
 pub enum Mark {
     Again(usize),
     Close(usize),
@@ -37,7 +38,7 @@ pub enum Mark {
 }
 
 // What stands outside the root: the end, markup that is no comment, or what cannot stand.
-#[derive(Drop)]
+#[derive(Clone, Copy)]
 pub enum Outer {
     End(usize),
     Lt(usize),

@@ -3,6 +3,8 @@
 // The root reads a number; sorts: what a value is worth where its attribute asks for a sort.
 // Promises: a value is read to its last byte or not at all; each answer is the paper's (specs/Values.antt), for every text.
 // May not touch: where a value stands, and which attribute asks for which value.
+#![tactic(auto)]
+
 ghost use Rattle.std.specs.Prelude.{◌≡◌, ◌≤◌, length};
 ghost use Rattle.values.specs.Numbers.{digit};
 ghost use Rattle.values.specs.NumbersCode.{digits_from, digits, number_spelt};
@@ -11,14 +13,14 @@ pub mod sorts;
 
 use text::texts;
 
-#[derive(Drop)]
+#[derive(Clone, Copy)]
 pub enum Number {
     Value(u64),
     Nothing,
 }
 
 // What an attribute asks of its value. A number goes from lo to hi; above `most` it is known and not carried.
-#[derive(Drop)]
+#[derive(Clone, Copy)]
 pub enum Sort {
     Numeric { lo: u32, hi: u32, most: u32 },
     Timeout,
@@ -36,7 +38,7 @@ pub const BAD_VALUE: u32 = 6;
 pub const NOT_CARRIED: u32 = 7;
 
 // What a value is worth: a number for the plan, or a refusal by its number.
-#[derive(Drop)]
+#[derive(Clone, Copy)]
 pub enum Worth {
     Good(u32),
     Refused(u32),

@@ -7,7 +7,7 @@ use mathlib.Core.Bool.{false}
 use lib.ListN.{length, drop}
 use Rattle.text.specs.Kinds.{is_blank, is_start, is_decl}
 use Rattle.text.proofs.Spans.{low_of}
-use Rattle.shape.specs.Shape.{Run, Remark, Comment, Misc, Prolog}
+use Rattle.shape.specs.Shape.{Run, Comment, Misc, Prolog}
 use Rattle.walk.specs.declared.Item.{Item}
 use Rattle.walk.specs.WalkCode.{past, item_at, prolog_end, misc_from, root_at}
 use Rattle.walk.proofs.Places.{here, ahead_in}

@@ -7,7 +7,7 @@ use mathlib.Core.Bool.{Bool, false}
 use lib.ListN.{drop}
 use lib.Seq.{slice}
 use Rattle.text.specs.Kinds.{is_blank, is_start, is_digit, is_name, is_text}
-use Rattle.shape.specs.Shape.{Node, Items, Run, Name, Remark, Comment, Content, ElementOf, Element}
+use Rattle.shape.specs.Shape.{Node, Items, Run, Name, Comment, Content, ElementOf, Element}
 use Rattle.walk.specs.declared.Item.{Item}
 use Rattle.walk.specs.StandsCode.{Closing, texted}
 use Rattle.walk.specs.WalkCode.{past, ahead, remark_end, item_at}

@@ -5,6 +5,8 @@
 // Promises: every answer is the function of the bytes that specs/WalkCode.antt gives, for every input; what that is on a well-shaped file, in terms of
 // its tree, is proofs/WalkLaws.antt.
 // May not touch: the shape itself (`xml` has checked it, nothing is checked again), and what any name or value means.
+#![tactic(auto)]
+
 ghost use Rattle.std.specs.Prelude.{◌≡◌, get_or};
 ghost use Rattle.walk.specs.WalkCode.{ahead};
 
@@ -16,14 +18,14 @@ pub mod texts;
 pub mod trims;
 
 // From one offset up to another.
-#[derive(Drop)]
+#[derive(Clone, Copy)]
 pub struct Part {
     pub from: usize,
     pub to: usize,
 }
 
 // What stands next in a start tag.
-#[derive(Drop)]
+#[derive(Clone, Copy)]
 pub enum TagPart {
     // The name's start and end, the value's start and end; the closing quote stands at the last.
     Attribute(usize, usize, usize, usize),
@@ -35,7 +37,7 @@ pub enum TagPart {
 }
 
 // What stands next in an element.
-#[derive(Drop)]
+#[derive(Clone, Copy)]
 pub enum Item {
     // The end of a run of text, which is not empty.
     Text(usize),
@@ -49,7 +51,7 @@ pub enum Item {
 }
 
 // What stands behind a start tag.
-#[derive(Drop)]
+#[derive(Clone, Copy)]
 pub enum Body {
     // Where the element's content starts.
     Open(usize),

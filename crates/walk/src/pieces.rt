@@ -12,7 +12,7 @@ use crate::{Body, Item, items, tags};
 const MOST: usize = 32768;
 
 // The text of an element as one part of the file, or that it is in several pieces (or too long for a buffer).
-#[derive(Drop)]
+#[derive(Clone, Copy)]
 pub enum Single {
     Part(usize, usize),
     Pieces,

@@ -4,6 +4,8 @@
 // Promises: `read_shape` answers every input: the file is too long, or it is well shaped as crates/shape/specs/Shape.antt says it,
 // or how many of its bytes some well-shaped text starts with.
 // May not touch: what an element means. It knows no element's name, and keeps nothing of what it reads.
+#![tactic(auto)]
+
 ghost use Rattle.std.specs.Prelude.{◌≡◌, ◌<◌, length};
 ghost use Rattle.shape.specs.MachineCode.{at, goes, start, decl, mark, mark_xm, before, after, idle};
 ghost use Rattle.shape.specs.ReadsCode.{Expects, Reads, Marks, in_lt, in_text, ReadsElement, single, Outside, as_shape};
