@@ -4,6 +4,8 @@
 // Promises: `compile` answers every input, by value and to the last word, as crates/grammar/specs/Outcome.antt says it: the words of the one tree
 // that the text is, or that it breaks the rules (refusal 11), or else that a word names no trigger (12).
 // May not touch: anything but the text and the names it is lent. It knows nothing of XML and nothing of where the code goes.
+#![tactic(auto)]
+
 ghost use Rattle.std.specs.Prelude.{◌≡◌, map, ◌≤◌, length, drop};
 ghost use Rattle.grammar.specs.Tree.{or, and, code, coded};
 ghost use Rattle.grammar.specs.TokensCode.{names_in, numbered_token};
@@ -30,7 +32,7 @@ const UNKNOWN: u32 = 37;
 const DEPTH: usize = 8;
 
 // Operands parted by OR.
-#[cycle(read_and_read_bracket_read_not_read_or)]
+#[cycle(readers)]
 fn read_or(toks: &[u32], at: usize, depth: usize, out: &mut [u32], n: usize) -> Got
     requires { (at ≤ length toks.now) × (n ≤ at) × (length toks.now ≤ length out.old) }
     ensures { Agrees (code (λ i. i)) toks.now at n out.old out.new (parse_chain or depth (map numbered_token (drop at toks.now))) result }
@@ -55,7 +57,7 @@ fn read_or(toks: &[u32], at: usize, depth: usize, out: &mut [u32], n: usize) -> 
 }
 
 // Operands parted by AND.
-#[cycle(read_and_read_bracket_read_not_read_or)]
+#[cycle(readers)]
 fn read_and(toks: &[u32], at: usize, depth: usize, out: &mut [u32], n: usize) -> Got
     requires { (at ≤ length toks.now) × (n ≤ at) × (length toks.now ≤ length out.old) }
     ensures { Agrees (code (λ i. i)) toks.now at n out.old out.new (parse_chain and depth (map numbered_token (drop at toks.now))) result }
@@ -80,7 +82,7 @@ fn read_and(toks: &[u32], at: usize, depth: usize, out: &mut [u32], n: usize) ->
 }
 
 // NOT and its operand, a word, or an expression in brackets.
-#[cycle(read_and_read_bracket_read_not_read_or)]
+#[cycle(readers)]
 fn read_not(toks: &[u32], at: usize, depth: usize, out: &mut [u32], n: usize) -> Got
     requires { (at ≤ length toks.now) × (n ≤ at) × (length toks.now ≤ length out.old) }
     ensures { Agrees (coded (λ i. i)) toks.now at n out.old out.new (parse_operand and depth (map numbered_token (drop at toks.now))) result }
@@ -113,7 +115,7 @@ fn read_not(toks: &[u32], at: usize, depth: usize, out: &mut [u32], n: usize) ->
 }
 
 // What stands behind an opening bracket, and the closing one.
-#[cycle(read_and_read_bracket_read_not_read_or)]
+#[cycle(readers)]
 fn read_bracket(toks: &[u32], at: usize, depth: usize, out: &mut [u32], n: usize) -> Got
     requires { (at ≤ length toks.now) × (n ≤ at) × (length toks.now ≤ length out.old) }
     ensures { Agrees (coded (λ i. i)) toks.now at n out.old out.new (bracket_at (parse_chain or) depth (map numbered_token (drop at toks.now))) result }

@@ -1,4 +1,4 @@
--- The readers without their fuel: given enough, what a reader reads does not hang on it. The laws `parse-..` are all that a caller needs.
+-- The readers without their fuel: given enough, what a reader reads does not hang on it. The laws `parse_..` are all that a caller needs.
 use Prim.Native.Nat.{ℕ, zero, suc, ◌+◌, ◌*◌, ◌≤◌}
 use native.Mathlib.Omega.{arith}
 use mathlib.Core.Path.{◌≡◌, refl, ap, ◌∙◌}

@@ -4,11 +4,13 @@
 // the refusals, once; the theorems on them stand in proofs/.
 // May not touch: anything; it has no code.
 
+#![tactic(auto)]
+
 // The most tokens that an expression has, and the most words: one for each token.
 pub const MOST: usize = 64;
 
 // The numbers of a text's tokens; not fine where a byte is at fault or there are more than fit.
-#[derive(Drop)]
+#[derive(Clone, Copy)]
 pub struct Lexed {
     pub fine: bool,
     pub count: usize,
@@ -16,14 +18,14 @@ pub struct Lexed {
 }
 
 // What stands at a place of a text: a token's number and the place behind it, a blank, or a byte at fault.
-#[derive(Drop)]
+#[derive(Clone, Copy)]
 pub enum Lexeme {
     Next(u32, usize),
     Skip,
     Wrong,
 }
 
-#[derive(Drop)]
+#[derive(Clone, Copy)]
 pub enum Verdict {
     Good,
     Broken,
@@ -31,7 +33,7 @@ pub enum Verdict {
 }
 
 // The first `count` words are the code; after a refusal there are none.
-#[derive(Drop)]
+#[derive(Clone, Copy)]
 pub struct Compiled {
     pub verdict: Verdict,
     pub count: usize,
@@ -39,7 +41,7 @@ pub struct Compiled {
 }
 
 // What a reader answers: the next token's place and the next word's, or that nothing that it reads stands there.
-#[derive(Drop)]
+#[derive(Clone, Copy)]
 pub enum Got {
     At(usize, usize),
     Fault,
