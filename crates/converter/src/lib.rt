@@ -4,6 +4,8 @@
 // its own, and copies it where it is whole.
 // Promises: `convert` answers every file and every buffer; specs/Converter.antt says which answer, and what the buffer holds then.
 // May not touch: anything after the first refusal. No plan word is written before the last check.
+#![tactic(auto)]
+
 ghost use Rattle.std.specs.Prelude.{◌≡◌, ◌≤◌, length, take};
 ghost use Rattle.document.specs.EntriesCode.{entry_room, entries_in};
 ghost use Rattle.tables.specs.TablesCode.{names_at};
@@ -23,14 +25,14 @@ use tables::rows::{Names, Told};
 const LONGEST: usize = 1590;
 
 // How many words were written, or a refusal's number and place.
-#[derive(Drop)]
+#[derive(Clone, Copy)]
 pub enum Converted {
     Words(usize),
     Refused(u32, usize),
 }
 
 // The first refusal of 11 and 12, or how many words were written.
-#[derive(Drop)]
+#[derive(Clone, Copy)]
 pub struct Written {
     pub fault: Refusal,
     pub count: usize,

@@ -3,6 +3,8 @@
 // skips: the elements of a file that are skipped. triggers: the triggers that no expression names, among its entries.
 // Promises: every answer is what specs/Omissions.antt says of a file that meets the rules; a refused file has no notices.
 // May not touch: what is accepted and what the plan holds. Nothing here is asked by the converter.
+#![tactic(auto)]
+
 ghost use Rattle.std.specs.Prelude.{◌≡◌, set};
 ghost use Rattle.lists.specs.Lists.{any};
 ghost use Rattle.element.specs.ElementCode.{is_kind};

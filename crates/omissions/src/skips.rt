@@ -14,7 +14,7 @@ use schema::kinds;
 use walk::{Body, Item, elements, items, tags};
 
 // The walk so far: where it stands, and how many elements were skipped.
-#[derive(Drop)]
+#[derive(Clone, Copy)]
 pub struct Sought {
     pub at: usize,
     pub count: usize,

@@ -1,5 +1,4 @@
 -- Paper 01, "Checks by hand", and numbers at both ends, computed.
-use Prim.Native.String.{String}
 use mathlib.Core.Path.{◌≡◌, refl}
 use mathlib.Core.List.{[], ◌∷◌}
 use Rattle.text.specs.Texts.{bytes}

@@ -2,6 +2,8 @@
 //
 // Promises: `print_answer` answers every form, every file, every plan buffer and every text buffer; specs/Printing.antt says what stands in them then.
 // May not touch: standard input and output. The programs read and write.
+#![tactic(auto)]
+
 ghost use Rattle.std.specs.Prelude.{◌≤◌, ◌≡◌, [], ◌∷◌, ◌++◌, length, get_or, take};
 ghost use Rattle.text.specs.Texts.{bytes};
 ghost use Rattle.converter.specs.declared.Converted.TheVariants.{Words};
@@ -11,7 +13,7 @@ ghost use Rattle.printing.specs.PrintingCode.{Put, Adds};
 use converter::Converted;
 
 // Whose text is wanted: that of the program `plan`, or that of the program `convert`.
-#[derive(Drop)]
+#[derive(Clone, Copy)]
 pub enum Form {
     Plan,
     Words,

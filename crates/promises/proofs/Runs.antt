@@ -35,7 +35,7 @@ use Rattle.event_rules.specs.declared.Counts.{Counts}
 use Rattle.event_rules.specs.declared.Outcome.{Outcome}
 use Rattle.event_rules.specs.Rules.{Statement, MessageFilter, Config, Event}
 use Rattle.event_rules.specs.Calls.{step, statement_of, filter_rule, config_of, Answers}
-use Rattle.event_rules.proofs.Faults.{code_in, statements_in_lem}
+use Rattle.event_rules.proofs.Faults.{code_in, statements_in_range}
 use Rattle.event_rules.proofs.Filters.{on_channels}
 use Rattle.event_rules.proofs.HistoryLaws.{chain_is}
 use Rattle.replay.proofs.Replays.{replay_is}
@@ -178,4 +178,4 @@ codes t (y ∷ ss) h =
     (sound_code_lem t y.code (code_in t y a), codes t ss b)
 
 pub safe_codes : (ws : List ℕ) (p : PlanOf ws) → Every (λ y. (v : ℕ → Bool) → Runs v y.code) p.plan.statements
-safe_codes ws p = codes (length p.plan.triggers) p.plan.statements (statements_in_lem p.plan p.is_in_range)
+safe_codes ws p = codes (length p.plan.triggers) p.plan.statements (statements_in_range p.plan p.is_in_range)

@@ -2,3 +2,5 @@
 //
 // Promises: specs/Promises.antt; proofs/Demands.antt.
 // May not touch: bytes; it cites the contracts of the layers.
+
+#![tactic(auto)]

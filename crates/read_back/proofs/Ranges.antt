@@ -15,7 +15,7 @@ use Rattle.values.specs.Values.{ranged, either_word, worth_of}
 use Rattle.values.specs.NumbersCode.{number_spelt}
 use Rattle.records.specs.Records.{dlc_top, timeout_in, id_top, trigger_in, filter_in}
 use Rattle.records.specs.declared.Timeout.TheVariants.{Forever, Ms}
-use Rattle.schema.specs.Schema.{Rule, ◌to◌, elements, rules_in, rules_of, parent_in, parents}
+use Rattle.schema.specs.Schema.{Rule, elements, rules_in, rules_of, parent_in, parents}
 use Rattle.file_rules.specs.Element.{Known, good_of, worth_by, given_value, value_of, given, has, repeated, misfit, crossed}
 use Rattle.file_rules.specs.Reading.{is, trigger_of, filter_of}
 use Rattle.file_rules.specs.Tables.{is_in, channel_named}
@@ -149,13 +149,13 @@ module _ (n : ℕ) (k : Known) (fit : misfit k ≡ false) (bounds : crossed k �
   abbrev lasts : List ℕ
   lasts = given_value (bytes "timeout") k.attributes
 
-  abbrev in_time_lem : Type 0
-  in_time_lem = timeout_in (cond (same lasts (bytes "-1")) Forever (Ms (value_of k "timeout"))) ≡ true
+  abbrev is_in_time : Type 0
+  is_in_time = timeout_in (cond (same lasts (bytes "-1")) Forever (Ms (value_of k "timeout"))) ≡ true
 
-  timely : value_of k "timeout" ≡ good_of (worth_of Timeout lasts) → in_time_lem
+  timely : value_of k "timeout" ≡ good_of (worth_of Timeout lasts) → is_in_time
   timely e = rw e (timeout_top lasts)
 
-  id_given : is "TRIGGER_MSG_ID" k ≡ true → in_time_lem → ltb (value_of k "channel") n ≡ true
+  id_given : is "TRIGGER_MSG_ID" k ≡ true → is_in_time → ltb (value_of k "channel") n ≡ true
       → leb (value_of k "msgid_min") (value_of k "msgid") ≡ true → leb (value_of k "msgid") (id_top (eqb (value_of k "can_ext") 1)) ≡ true
       → fires
   unfolding trigger_of
@@ -171,7 +171,7 @@ module _ (n : ℕ) (k : Known) (fit : misfit k ≡ false) (bounds : crossed k �
       (rw m (flag_top (given_value (bytes "can_ext") k.attributes)))
       (rw m (number_top 0 536870911 536870911 (given_value (bytes "msgid") k.attributes))))
 
-  length_given : is "TRIGGER_MSG_ID" k ≡ false → is "TRIGGER_MSG_DLC" k ≡ true → in_time_lem → ltb (value_of k "channel") n ≡ true
+  length_given : is "TRIGGER_MSG_ID" k ≡ false → is "TRIGGER_MSG_DLC" k ≡ true → is_in_time → ltb (value_of k "channel") n ≡ true
       → leb (value_of k "dlc_min") (value_of k "dlc") ≡ true → leb (value_of k "dlc") dlc_top ≡ true → fires
   unfolding trigger_of
   length_given e g t c o i = rw (e, g, t, c, o, i) refl
@@ -184,7 +184,7 @@ module _ (n : ℕ) (k : Known) (fit : misfit k ≡ false) (bounds : crossed k �
       (le-leb (value_of k "dlc_min") (value_of k "dlc") (lengths_ordered k bounds))
       (le-leb (value_of k "dlc") 8 (rw m (number_top 0 8 8 (given_value (bytes "dlc") k.attributes))))
 
-  error_given : is "TRIGGER_MSG_ID" k ≡ false → is "TRIGGER_MSG_DLC" k ≡ false → is "TRIGGER_MSG_ERROR_FRAME" k ≡ true → in_time_lem
+  error_given : is "TRIGGER_MSG_ID" k ≡ false → is "TRIGGER_MSG_DLC" k ≡ false → is "TRIGGER_MSG_ERROR_FRAME" k ≡ true → is_in_time
       → ltb (value_of k "channel") n ≡ true → fires
   unfolding trigger_of
   error_given e g h t c = rw (e, g, h, t, c) refl
@@ -195,7 +195,7 @@ module _ (n : ℕ) (k : Known) (fit : misfit k ≡ false) (bounds : crossed k �
       error_given (rw m refl) (rw m refl) (rw m refl) (timely (rw m refl))
       (below n (value_of k "channel") (channel_named k) (rw m refl) low)
 
-  startup_given : is "TRIGGER_MSG_ID" k ≡ false → is "TRIGGER_MSG_DLC" k ≡ false → is "TRIGGER_MSG_ERROR_FRAME" k ≡ false → in_time_lem → fires
+  startup_given : is "TRIGGER_MSG_ID" k ≡ false → is "TRIGGER_MSG_DLC" k ≡ false → is "TRIGGER_MSG_ERROR_FRAME" k ≡ false → is_in_time → fires
   unfolding trigger_of
   startup_given e g h t = rw (e, g, h, t) refl
 

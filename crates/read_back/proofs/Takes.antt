@@ -1,5 +1,5 @@
 -- The loader takes every plan of a document without faults, and reads it back as it was.
-use Prim.Native.Nat.{ℕ, suc, ◌+◌, ◌^◌, ◌≤◌}
+use Prim.Native.Nat.{ℕ, suc, ◌^◌, ◌≤◌}
 use native.Mathlib.Omega.{arith}
 use mathlib.Core.Path.{◌≡◌, refl, sym, ap, ◌∙◌, subst}
 use mathlib.Core.List.{List, [], ◌∷◌, ◌++◌, map}
@@ -155,12 +155,12 @@ module _ (names : List (List ℕ)) (few : length names ≤ 32) where
         c.loads,
       )
 
-  statements_in_lem : (ks : List Known) (ss : List PlanStatement) → All Whole ks → Coded names ks ss
+  statements_in_range : (ks : List Known) (ss : List PlanStatement) → All Whole ks → Coded names ks ss
       → (all (statement_in (length names)) ss ≡ true) × (length ss ≡ length ks)
   unfolding all
-  statements_in_lem [] ss h Coded.over = (refl, refl)
-  statements_in_lem (k ∷ ks) ss h (Coded.next k₁ code ks₁ ts c m) =
-      let r = statements_in_lem ks ts h.1 m in
+  statements_in_range [] ss h Coded.over = (refl, refl)
+  statements_in_range (k ∷ ks) ss h (Coded.next k₁ code ks₁ ts c m) =
+      let r = statements_in_range ks ts h.1 m in
       (rw (statement_in_lem k code h.0 c) r.0, ap suc r.1)
 
 abbrev pub Plain : Known → Type 0
@@ -206,8 +206,8 @@ module _ (x : Node) (e : element_faults x ≡ []) (h : table_faults (known_eleme
   mets : All (λ k. lacks k ≡ false) ks
   mets = any_none lacks ks (faultless_parts x e).1
 
-  triggers_in_lem : all (trigger_in n) (map trigger_of (kept (is_in "TRIGGERS") ks)) ≡ true
-  triggers_in_lem =
+  triggers_in_range : all (trigger_in n) (map trigger_of (kept (is_in "TRIGGERS") ks)) ≡ true
+  triggers_in_range =
       all_true (trigger_in n) trigger_of (kept (is_in "TRIGGERS") ks)
       (all_mapped (λ k. (is_in "TRIGGERS" k ≡ true) × (Clean k × Low k)) (λ k. trigger_in n (trigger_of k) ≡ true)
       (λ k z. trigger_in_lem n k z.1.0.fits z.1.0.bounds z.1.1 z.0) (kept (is_in "TRIGGERS") ks)
@@ -235,8 +235,8 @@ module _ (x : Node) (e : element_faults x ≡ []) (h : table_faults (known_eleme
       (all_zipped (λ k. All Low (within k)) (λ k. Nested k.name (within k)) ks (all_within Low x lows)
       (all_inner [] ks (all_nested x e))))
 
-  filters_in_lem : all (filter_in (2 ^ n)) (map filter_as (kept (is_in "FILTERS") ks)) ≡ true
-  filters_in_lem =
+  filters_in_range : all (filter_in (2 ^ n)) (map filter_as (kept (is_in "FILTERS") ks)) ≡ true
+  filters_in_range =
       all_true (filter_in (2 ^ n)) filter_as (kept (is_in "FILTERS") ks)
       (all_mapped (λ k. (is_in "FILTERS" k ≡ true) × Ready k) (λ k. filter_in (2 ^ n) (filter_as k) ≡ true)
       (λ k z. filter_good k z.0 z.1.0 z.1.1.0 z.1.1.1.0 z.1.1.1.1) (kept (is_in "FILTERS") ks)
@@ -274,7 +274,7 @@ module _ (x : Node) (e : element_faults x ≡ []) (h : table_faults (known_eleme
     is_in_range =
         let a = some_parameters x e in
         let f = length-map (kept (is_in "FILTERS") ks) filter_as in
-        let s = statements_in_lem names few_names (kept (is "STATEMENT") ks) ss wholes codes in
+        let s = statements_in_range names few_names (kept (is "STATEMENT") ks) ss wholes codes in
         let b = few_filters x e in
         let d = few_statements x e in
         rw (← parameters, many_triggers)
@@ -284,8 +284,8 @@ module _ (x : Node) (e : element_faults x ≡ []) (h : table_faults (known_eleme
           le-leb (length names) 32 few_names,
           le-leb (length (map filter_as (kept (is_in "FILTERS") ks))) 32 (omega (arith, f, b)),
           le-leb (length ss) 16 (omega (arith, s.1, d)),
-          triggers_in_lem,
-          filters_in_lem,
+          triggers_in_range,
+          filters_in_range,
           s.0,
         )
         refl)

@@ -4,6 +4,8 @@
 // Promises: `read_tables` answers every file and words, by value; proofs/Laws.antt, `reads_well`: for a file without faults what is told is what
 // crates/file_rules/specs/Tables.antt says, and so is its first fault of 9 and 10.
 // May not touch: expressions, and the words of a plan.
+#![tactic(auto)]
+
 ghost use Rattle.std.specs.Prelude.{◌≡◌, [], false, ◌≤◌, length, take, drop};
 ghost use Rattle.text.specs.Texts.{same};
 ghost use Rattle.grammar.specs.TokensCode.{spans};
@@ -22,7 +24,7 @@ use schema::{attributes, kinds};
 use text::texts;
 
 // What a file says, and its first refusal of 9 and 10.
-#[derive(Drop)]
+#[derive(Clone, Copy)]
 pub struct Telling {
     pub fault: Refusal,
     pub told: Told,

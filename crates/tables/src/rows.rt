@@ -12,7 +12,7 @@ use records::{Cause, Effect, Filter, Trigger};
 use schema::{attributes, kinds};
 
 // Where the triggers' names stand in the file, and the triggers.
-#[derive(Drop)]
+#[derive(Clone, Copy)]
 pub struct Names {
     pub starts: [usize; 32],
     pub ends: [usize; 32],
@@ -21,14 +21,14 @@ pub struct Names {
 }
 
 // How many PARAMETERS there are and which channels they have; log_all.
-#[derive(Drop)]
+#[derive(Clone, Copy)]
 pub struct Head {
     pub channels: u32,
     pub present: [bool; 5],
     pub all: bool,
 }
 
-#[derive(Drop)]
+#[derive(Clone, Copy)]
 pub struct Told {
     pub head: Head,
     pub names: Names,

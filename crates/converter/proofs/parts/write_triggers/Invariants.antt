@@ -1,0 +1,14 @@
+-- `converter::parts::write_triggers` meets its contract: what the entries before `at` give is written, the next goes to n.
+use Prim.Native.Nat.{◌-◌}
+use lib.ListN.{length}
+use Rattle.document.specs.EntriesCode.{entries_in}
+use Rattle.converter.specs.PlanCode.{rows_of, trigger_row}
+use Rattle.converter.proofs.Writes.{Behind}
+use Rattle.converter.proofs.Rows.{rows_at}
+use Rattle.converter.proofs.parts.write_triggers.Given as goal
+
+abbrev pub invariant-loop-at : goal.invariant-loop-at
+invariant-loop-at l = Behind (rows_of trigger_row (entries_in l.entries)) l.initial.out (rows_at trigger_row l.entries l.at) l.n l.out
+
+abbrev pub decreases-loop-at : goal.decreases-loop-at
+decreases-loop-at l = length l.entries - l.at
