@@ -9,15 +9,16 @@
 //   !        every prefix of the base file
 //   OLD|NEW or OLD|NEW|OLD2|NEW2
 //            the base file with the first OLD replaced by NEW, then in the result the first OLD2 by NEW2
-ghost use Rattle.std.specs.Prelude.{◌+◌, ◌≤◌, min, ◌≡◌, length};
-ghost use Rattle.io.specs.Counts.{IsPrefixLen};
+#![tactic(auto)]
+
+ghost use Rattle.std.specs.Prelude.{◌+◌, ◌≤◌, min, ◌≡◌, length, IfOk};
 
 use converter::Converted;
+use std::io;
 use text::texts;
 
-const STDIN: i32 = 0;
-
-const STDOUT: i32 = 1;
+// As many bytes of input are read, and as many has a file.
+const LARGEST: usize = 65536;
 
 const ROOM: usize = 1600;
 
@@ -31,13 +32,13 @@ const CHANGES: u8 = 1;
 
 const ALL: u8 = 2;
 
-fn say(text: &[u8]) {
-    io::write_all(STDOUT, text);
+fn say(rt: &impl Print, text: &[u8]) -> io::Result<()> {
+    rt.write_all(text)
 }
 
-fn say_number(before: &[u8], n: usize) {
-    say(before);
-    io::print_decimal(STDOUT, n as u64);
+fn say_number(rt: &impl Print, before: &[u8], n: usize) -> io::Result<()> {
+    say(rt, before)?;
+    rt.print(n as u64)
 }
 
 // The number that the digits spell, at most the room: a digit's low four bits are its worth.
@@ -55,19 +56,19 @@ fn number(digits: &[u8]) -> usize
 }
 
 // Where a text first stands. Where it does not, a case tests nothing: it says so and answers the end.
-fn find_text(s: &[u8], text: &[u8]) -> usize
-    ensures { result ≤ length s.now }
+fn find_text(rt: &impl Print, s: &[u8], text: &[u8]) -> io::Result<usize>
+    ensures { IfOk result (λ i. i ≤ length s.now) }
 {
     let mut i = 0;
     while i < s.len() {
         let e = i + lists::least(text.len(), s.len() - i);
         if texts::same_text(&s[i..e], text) {
-            return i;
+            return Ok(i);
         }
         i += 1;
     }
-    say(b"(not there) ");
-    i
+    say(rt, b"(not there) ")?;
+    Ok(i)
 }
 
 // The offset behind the byte at i.
@@ -84,14 +85,14 @@ fn put(text: &[u8], out: &mut [u8], at: usize) -> usize
 {
     let n = lists::least(text.len(), out.len() - at);
     let e = at + n;
-    bytes::copy(&text[..n], &mut out[at..e]);
+    out[at..e].copy_from_slice(&text[..n]);
     e
 }
 
 // Writes the file with what stands from p to q replaced.
 fn splice(file: &[u8], p: usize, q: usize, new: &[u8], out: &mut [u8]) -> usize
     requires { (p ≤ length file.now) × (q ≤ length file.now) }
-    ensures { IsPrefixLen result out.new }
+    ensures { result ≤ length out.new }
 {
     let i = put(&file[..p], out, 0);
     let j = put(new, out, i);
@@ -99,79 +100,80 @@ fn splice(file: &[u8], p: usize, q: usize, new: &[u8], out: &mut [u8]) -> usize
 }
 
 // Writes the file with the OLD of a pair replaced.
-fn edit(file: &[u8], pair: &[u8], out: &mut [u8]) -> usize
-    ensures { IsPrefixLen result out.new }
+fn edit(rt: &impl Print, file: &[u8], pair: &[u8], out: &mut [u8]) -> io::Result<usize>
+    ensures { IfOk result (λ n. n ≤ length out.new) }
 {
-    let a = bytes::scan::find(pair, 0, pair.len(), b'|');
+    let a = reading::place_of(b'|', pair);
     let b = behind(pair, a);
-    let p = find_text(file, &pair[..a]);
+    let p = find_text(rt, file, &pair[..a])?;
     let q = p + lists::least(a, file.len() - p);
-    splice(file, p, q, &pair[b..], out)
+    Ok(splice(file, p, q, &pair[b..], out))
 }
 
 // A missing second pair replaces nothing by nothing.
-fn edit_twice(file: &[u8], line: &[u8], out: &mut [u8]) -> usize
-    ensures { IsPrefixLen result out.new }
+fn edit_twice(rt: &impl Print, file: &[u8], line: &[u8], out: &mut [u8]) -> io::Result<usize>
+    ensures { IfOk result (λ n. n ≤ length out.new) }
 {
-    let n = line.len();
-    let a = bytes::scan::find(line, 0, n, b'|');
+    let a = reading::place_of(b'|', line);
     let b = behind(line, a);
-    let c = bytes::scan::find(line, b, n, b'|');
+    let c = b + reading::place_of(b'|', &line[b..]);
     let d = behind(line, c);
-    let mut first = io::large_buffer();
-    let m = edit(file, &line[..c], &mut first);
-    edit(&first[..m], &line[d..], out)
+    let mut first = [0; LARGEST];
+    let m = edit(rt, file, &line[..c], &mut first)?;
+    edit(rt, &first[..m], &line[d..], out)
 }
 
-fn say_case(line: &[u8]) {
+fn say_case(rt: &impl Print, line: &[u8]) -> io::Result<()> {
     let n = lists::least(line.len(), 100);
-    say(&line[..n]);
+    say(rt, &line[..n])?;
     if n < line.len() {
-        say(b"..");
+        say(rt, b"..")?;
     }
-    say(b" -> ");
+    say(rt, b" -> ")
 }
 
 // The start of what stands at a refusal's place, to the end of its line.
-fn say_place(file: &[u8], p: usize) {
+fn say_place(rt: &impl Print, file: &[u8], p: usize) -> io::Result<()> {
     if file.len() <= p {
-        return;
+        return Ok(());
     }
     let e = p + lists::least(file.len() - p, 24);
-    let end = bytes::scan::find(file, p, e, b'\n');
-    say(b" ");
-    say(&file[p..end]);
+    let end = p + reading::place_of(b'\n', &file[p..e]);
+    say(rt, b" ")?;
+    say(rt, &file[p..end])
 }
 
-fn say_refused(file: &[u8], k: u32, p: usize, how: u8) {
-    say_number(b"refused ", k as usize);
-    say_number(b" at ", p);
+fn say_refused(rt: &impl Print, file: &[u8], k: u32, p: usize, how: u8) -> io::Result<()> {
+    say_number(rt, b"refused ", k as usize)?;
+    say_number(rt, b" at ", p)?;
     if (how != SHORT) & (k != 13) {
-        say_place(file, p);
+        say_place(rt, file, p)?;
     }
+    Ok(())
 }
 
-fn say_word(i: usize, new: u32, old: u32, how: u8) {
+fn say_word(rt: &impl Print, i: usize, new: u32, old: u32, how: u8) -> io::Result<()> {
     if how == ALL {
-        say_number(b" ", new as usize);
-        return;
+        return say_number(rt, b" ", new as usize);
     }
     if (how == CHANGES) & (new != old) {
-        say_number(b" [", i);
-        say_number(b"]=", new as usize);
+        say_number(rt, b" [", i)?;
+        say_number(rt, b"]=", new as usize)?;
     }
+    Ok(())
 }
 
 // Nothing of a plan of another length than the base's.
-fn say_words(new: &[u32], old: &[u32], how: u8) {
+fn say_words(rt: &impl Print, new: &[u32], old: &[u32], how: u8) -> io::Result<()> {
     if new.len() != old.len() {
-        return;
+        return Ok(());
     }
     let mut i = 0;
     while i < new.len() {
-        say_word(i, new[i], old[i], how);
+        say_word(rt, i, new[i], old[i], how)?;
         i += 1;
     }
+    Ok(())
 }
 
 // Was a word written that had to be left alone?
@@ -187,20 +189,20 @@ fn spoilt(words: &[u32]) -> bool {
 }
 
 // Ends a line; `rest` are the words behind those answered.
-fn say_end(rest: &[u32]) {
+fn say_end(rt: &impl Print, rest: &[u32]) -> io::Result<()> {
     if spoilt(rest) {
-        say(b" SPOILT");
+        say(rt, b" SPOILT")?;
     }
-    say(b"\n");
+    say(rt, b"\n")
 }
 
 // The answer of n words, and the buffer that it came in.
-fn say_plan(n: usize, plan: &[u32], words: &[u32], how: u8) {
+fn say_plan(rt: &impl Print, n: usize, plan: &[u32], words: &[u32], how: u8) -> io::Result<()> {
     let m = lists::least(n, plan.len());
-    say_number(b"", n);
-    say(b" words");
-    say_words(&plan[..m], words, how);
-    say_end(&plan[m..]);
+    say_number(rt, b"", n)?;
+    say(rt, b" words")?;
+    say_words(rt, &plan[..m], words, how)?;
+    say_end(rt, &plan[m..])
 }
 
 fn convert_anew(file: &[u8], plan: &mut [u32]) -> Converted {
@@ -213,23 +215,24 @@ fn convert_anew(file: &[u8], plan: &mut [u32]) -> Converted {
 }
 
 // One file; `words` are the base's.
-fn show(file: &[u8], words: &[u32], plan: &mut [u32], how: u8) {
+fn show(rt: &impl Print, file: &[u8], words: &[u32], plan: &mut [u32], how: u8) -> io::Result<()> {
     match convert_anew(file, plan) {
-        Converted::Words(n) => say_plan(n, plan, words, how),
+        Converted::Words(n) => say_plan(rt, n, plan, words, how),
         Converted::Refused(k, p) => {
-            say_refused(file, k, p, how);
-            say_end(plan);
+            say_refused(rt, file, k, p, how)?;
+            say_end(rt, plan)
         }
     }
 }
 
 // A run of prefixes: of `from` bytes and more, and of less than `to`.
-fn say_run(from: usize, to: usize) {
+fn say_run(rt: &impl Print, from: usize, to: usize) -> io::Result<()> {
     if from < to {
-        say_number(b"prefixes ", from);
-        say_number(b" to ", to - 1);
-        say(b": refused 2 at their end\n");
+        say_number(rt, b"prefixes ", from)?;
+        say_number(rt, b" to ", to - 1)?;
+        say(rt, b": refused 2 at their end\n")?;
     }
+    Ok(())
 }
 
 fn ends_early(file: &[u8], plan: &mut [u32]) -> bool {
@@ -240,78 +243,109 @@ fn ends_early(file: &[u8], plan: &mut [u32]) -> bool {
 }
 
 // One prefix; `from` is the length at which the run before it began. Answers that of the run behind it.
-fn prefix(file: &[u8], words: &[u32], plan: &mut [u32], from: usize) -> usize {
+fn prefix(
+    rt: &impl Print,
+    file: &[u8],
+    words: &[u32],
+    plan: &mut [u32],
+    from: usize,
+) -> io::Result<usize> {
     let n = file.len();
     if ends_early(file, plan) {
-        return from;
+        return Ok(from);
     }
-    say_run(from, n);
-    say_number(b"prefix ", n);
-    say(b": ");
-    show(file, words, plan, SHORT);
-    n + 1
+    say_run(rt, from, n)?;
+    say_number(rt, b"prefix ", n)?;
+    say(rt, b": ")?;
+    show(rt, file, words, plan, SHORT)?;
+    Ok(n + 1)
 }
 
-fn prefixes(file: &[u8], words: &[u32], plan: &mut [u32]) {
+fn prefixes(rt: &impl Print, file: &[u8], words: &[u32], plan: &mut [u32]) -> io::Result<()> {
     let mut from = 0;
     let mut n = 0;
     while n <= file.len() {
-        from = prefix(&file[..n], words, plan, from);
+        from = prefix(rt, &file[..n], words, plan, from)?;
         n += 1;
     }
-    say_run(from, n);
+    say_run(rt, from, n)
 }
 
-fn show_edit(line: &[u8], base: &[u8], words: &[u32], plan: &mut [u32]) {
-    let mut file = io::large_buffer();
-    let n = edit_twice(base, line, &mut file);
-    show(&file[..n], words, plan, CHANGES);
+fn show_edit(
+    rt: &impl Print,
+    line: &[u8],
+    base: &[u8],
+    words: &[u32],
+    plan: &mut [u32],
+) -> io::Result<()> {
+    let mut file = [0; LARGEST];
+    let n = edit_twice(rt, base, line, &mut file)?;
+    show(rt, &file[..n], words, plan, CHANGES)
 }
 
-fn show_case(line: &[u8], base: &[u8], words: &[u32], plan: &mut [u32])
+fn show_case(
+    rt: &impl Print,
+    line: &[u8],
+    base: &[u8],
+    words: &[u32],
+    plan: &mut [u32],
+) -> io::Result<()>
     requires { 1 ≤ length line.now }
 {
-    say_case(line);
+    say_case(rt, line)?;
     let mark = line[0];
     if mark == b'?' {
-        show(base, words, plan, ALL);
+        show(rt, base, words, plan, ALL)
     } else if mark == b'=' {
-        show(&line[1..], words, plan, CHANGES);
+        show(rt, &line[1..], words, plan, CHANGES)
     } else {
-        show_edit(line, base, words, plan);
+        show_edit(rt, line, base, words, plan)
     }
 }
 
 // One line. Answers the room from here on.
-fn case(line: &[u8], base: &[u8], words: &[u32], plan: &mut [u32]) -> usize {
+fn case(
+    rt: &impl Print,
+    line: &[u8],
+    base: &[u8],
+    words: &[u32],
+    plan: &mut [u32],
+) -> io::Result<usize> {
     let room = plan.len();
     if line.len() == 0 {
-        return room;
+        return Ok(room);
     }
     let mark = line[0];
     if mark == b'@' {
-        return number(&line[1..]);
+        return Ok(number(&line[1..]));
     }
     if mark == b'#' {
-        say(line);
-        say(b"\n");
+        say(rt, line)?;
+        say(rt, b"\n")?;
     } else if mark == b'!' {
-        prefixes(base, words, plan);
+        prefixes(rt, base, words, plan)?;
     } else {
-        show_case(line, base, words, plan);
+        show_case(rt, line, base, words, plan)?;
     }
-    room
+    Ok(room)
 }
 
-fn cases(lines: &[u8], base: &[u8], words: &[u32], plan: &mut [u32]) {
+fn cases(
+    rt: &impl Print,
+    lines: &[u8],
+    base: &[u8],
+    words: &[u32],
+    plan: &mut [u32],
+) -> io::Result<()> {
     let mut room = plan.len();
     let mut i = 0;
     while i < lines.len() {
-        let e = bytes::scan::find(lines, i, lines.len(), b'\n');
+        let e = i + reading::place_of(b'\n', &lines[i..]);
         let r = lists::least(room, plan.len());
-        room = case(&lines[i..e], base, words, &mut plan[..r]);
+        room = case(rt, &lines[i..e], base, words, &mut plan[..r])?;
         i = behind(lines, e);
     }
+    Ok(())
 }
 
 // How many words the base gives: none where it is refused.
@@ -324,21 +358,21 @@ fn count_words(file: &[u8], plan: &mut [u32]) -> usize
     }
 }
 
-fn run(input: &[u8], own: &mut [u32], plan: &mut [u32]) {
-    let p = find_text(input, b"\n==\n");
+fn run(rt: &impl Print, input: &[u8], own: &mut [u32], plan: &mut [u32]) -> io::Result<()> {
+    let p = find_text(rt, input, b"\n==\n")?;
     if input.len() - p < 4 {
-        return;
+        return Ok(());
     }
     let b = p + 1;
     let c = p + 4;
     let n = count_words(&input[..b], own);
-    cases(&input[c..], &input[..b], &own[..n], plan);
+    cases(rt, &input[c..], &input[..b], &own[..n], plan)
 }
 
-fn main() {
-    let mut input = io::large_buffer();
-    let n = io::read_full(STDIN, &mut input);
+fn main(rt: HostRuntime) -> io::Result<()> {
+    let mut input = [0; LARGEST];
+    let n = reading::first_bytes(&mut rt.reader(), &mut input)?;
     let mut own = [0; ROOM];
     let mut plan = [0; ROOM];
-    run(&input[..n], &mut own, &mut plan);
+    run(&rt, &input[..n], &mut own, &mut plan)
 }

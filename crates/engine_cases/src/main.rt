@@ -4,71 +4,73 @@
 // Promises: nothing but that it ends and touches no byte out of range; what it prints is held to the stored output.
 // A line is one letter and numbers: '#' is copied to the output, 'p' gives the plan's words, 'k' begins anew with four counts,
 // 'f' (frame), 'r' (remote frame), 'x' (extended frame) and 'e' (error frame) have channel, time, id and dlc, 't' (tick) a time.
-ghost use Rattle.std.specs.Prelude.{◌+◌, ◌≤◌, ◌<◌, length};
+#![tactic(auto)]
+
+ghost use Rattle.std.specs.Prelude.{◌+◌, ◌≤◌, ◌<◌, IfOk, length};
 
 use event_rules::{Answer, Counts, Engine, Frame, Logging, Outcome};
+use std::io;
 use steps::start;
 
-const STDIN: i32 = 0;
+// As many bytes of input are read.
+const ROOM: usize = 65536;
 
-const STDOUT: i32 = 1;
-
-fn say(text: &[u8]) {
-    io::write_all(STDOUT, text);
+fn say(rt: &impl Print, text: &[u8]) -> io::Result<()> {
+    rt.write_all(text)
 }
 
-fn say_number(n: u64) {
-    io::write_all(STDOUT, b" ");
-    io::print_decimal(STDOUT, n);
+fn say_number(rt: &impl Print, n: u64) -> io::Result<()> {
+    say(rt, b" ")?;
+    rt.print(n)
 }
 
-fn say_answer(a: Answer) {
+fn say_answer(rt: &impl Print, a: Answer) -> io::Result<()> {
     match a {
-        Answer::Recorded => say(b"Recorded"),
-        Answer::Idle => say(b"Idle"),
-        Answer::Stopped => say(b"Stopped"),
-        Answer::Halted => say(b"Halted"),
-        Answer::Ticked => say(b"Ticked"),
+        Answer::Recorded => say(rt, b"Recorded"),
+        Answer::Idle => say(rt, b"Idle"),
+        Answer::Stopped => say(rt, b"Stopped"),
+        Answer::Halted => say(rt, b"Halted"),
+        Answer::Ticked => say(rt, b"Ticked"),
         Answer::Refused(n) => {
-            say(b"refused");
-            say_number(n as u64);
+            say(rt, b"refused")?;
+            say_number(rt, n as u64)
         }
     }
 }
 
-fn say_logging(l: Logging) {
+fn say_logging(rt: &impl Print, l: Logging) -> io::Result<()> {
     match l {
-        Logging::Off => say(b", Off"),
-        Logging::On => say(b", On"),
+        Logging::Off => say(rt, b", Off"),
+        Logging::On => say(rt, b", On"),
         Logging::Ending(e) => {
-            say(b", ending at");
-            say_number(e);
+            say(rt, b", ending at")?;
+            say_number(rt, e)
         }
         Logging::EndingCompletely(e) => {
-            say(b", ending completely at");
-            say_number(e);
+            say(rt, b", ending completely at")?;
+            say_number(rt, e)
         }
-        Logging::Halted => say(b", Halted"),
+        Logging::Halted => say(rt, b", Halted"),
     }
 }
 
-fn say_counts(k: Counts) {
-    say(b" |");
-    say_number(k.recorded as u64);
-    say_number(k.idle as u64);
-    say_number(k.stopped as u64);
-    say_number(k.halted as u64);
-    say(b"\n");
+fn say_counts(rt: &impl Print, k: Counts) -> io::Result<()> {
+    say(rt, b" |")?;
+    say_number(rt, k.recorded as u64)?;
+    say_number(rt, k.idle as u64)?;
+    say_number(rt, k.stopped as u64)?;
+    say_number(rt, k.halted as u64)?;
+    say(rt, b"\n")
 }
 
-fn say_outcome(o: Outcome) {
+fn say_outcome(rt: &impl Print, o: Outcome) -> io::Result<()> {
     let answer = o.answer;
     let engine = o.engine;
     let logging = engine.logging;
     let counts = o.counts;
-    say_answer(answer);
-    say_logging(logging);
-    say_counts(counts);
+    say_answer(rt, answer)?;
+    say_logging(rt, logging)?;
+    say_counts(rt, counts)
 }
 
 // The low 32 bits.
@@ -113,7 +115,13 @@ fn lend_tick(words: &[u32], en: Engine, before: Counts, u: u64) -> Outcome {
     }
 }
 
-fn take_frame(words: &[u32], o: Outcome, kind: u8, numbers: &[u64]) -> Outcome
+fn take_frame(
+    rt: &impl Print,
+    words: &[u32],
+    o: Outcome,
+    kind: u8,
+    numbers: &[u64],
+) -> io::Result<Outcome>
     requires { 4 ≤ length numbers.now }
 {
     let f = Frame {
@@ -127,14 +135,14 @@ fn take_frame(words: &[u32], o: Outcome, kind: u8, numbers: &[u64]) -> Outcome
         bytes: [0; 8],
     };
     let next = lend_frame(words, o.engine, o.counts, f);
-    say_outcome(next);
-    next
+    say_outcome(rt, next)?;
+    Ok(next)
 }
 
-fn take_tick(words: &[u32], o: Outcome, u: u64) -> Outcome {
+fn take_tick(rt: &impl Print, words: &[u32], o: Outcome, u: u64) -> io::Result<Outcome> {
     let next = lend_tick(words, o.engine, o.counts, u);
-    say_outcome(next);
-    next
+    say_outcome(rt, next)?;
+    Ok(next)
 }
 
 // Where the line that begins at `from` ends.
@@ -179,7 +187,7 @@ fn next_digit(line: &[u8], from: usize) -> usize
     at
 }
 
-#[derive(Drop)]
+#[derive(Clone, Copy)]
 struct Number {
     value: u64,
     next: usize,
@@ -233,58 +241,70 @@ fn copy_words(numbers: &[u64], words: &mut [u32])
 }
 
 // A line that is no plan: what it makes of the run so far.
-fn take_line(words: &[u32], o: Outcome, kind: u8, numbers: &[u64]) -> Outcome
+fn take_line(
+    rt: &impl Print,
+    words: &[u32],
+    o: Outcome,
+    kind: u8,
+    numbers: &[u64],
+) -> io::Result<Outcome>
     requires { 4 ≤ length numbers.now }
 {
     match kind {
-        b'k' => begin(
+        b'k' => Ok(begin(
             narrow(numbers[0]),
             narrow(numbers[1]),
             narrow(numbers[2]),
             narrow(numbers[3]),
-        ),
-        b't' => take_tick(words, o, numbers[0]),
-        b'e' | b'f' | b'r' | b'x' => take_frame(words, o, kind, numbers),
-        _ => o,
+        )),
+        b't' => take_tick(rt, words, o, numbers[0]),
+        b'e' | b'f' | b'r' | b'x' => take_frame(rt, words, o, kind, numbers),
+        _ => Ok(o),
     }
 }
 
 // The run so far: how many words the plan has, and the last outcome.
-#[derive(Drop)]
+#[derive(Clone, Copy)]
 struct Stage {
     count: usize,
     outcome: Outcome,
 }
 
-fn step_line(line: &[u8], s: Stage, words: &mut [u32], numbers: &mut [u64]) -> Stage
+fn step_line(
+    rt: &impl Print,
+    line: &[u8],
+    s: Stage,
+    words: &mut [u32],
+    numbers: &mut [u64],
+) -> io::Result<Stage>
     requires { (4 ≤ length numbers.old) × (length numbers.old ≤ length words.old) × (s.count ≤ length words.old) }
-    ensures { result.count ≤ length words.old }
+    ensures { IfOk result (λ next. next.count ≤ length words.old) }
 {
     if line.len() == 0 {
-        return s;
+        return Ok(s);
     }
     let kind = line[0];
     if kind == b'#' {
-        say(line);
-        say(b"\n");
-        return s;
+        say(rt, line)?;
+        say(rt, b"\n")?;
+        return Ok(s);
     }
     let n = read_numbers(line, numbers);
     let outcome = s.outcome;
     if kind == b'p' {
         copy_words(&numbers[..n], words);
-        return Stage { count: n, outcome };
+        return Ok(Stage { count: n, outcome });
     }
     let count = s.count;
-    let next = take_line(&words[..count], outcome, kind, numbers);
-    Stage {
+    let next = take_line(rt, &words[..count], outcome, kind, numbers)?;
+    Ok(Stage {
         count,
         outcome: next,
-    }
+    })
 }
 
 // The lines of the input, in order.
-fn run(input: &[u8], words: &mut [u32], numbers: &mut [u64])
+fn run(rt: &impl Print, input: &[u8], words: &mut [u32], numbers: &mut [u64]) -> io::Result<()>
     requires { (4 ≤ length numbers.old) × (length numbers.old ≤ length words.old) }
 {
     let outcome = begin(0, 0, 0, 0);
@@ -292,18 +312,19 @@ fn run(input: &[u8], words: &mut [u32], numbers: &mut [u64])
     let mut at = 0;
     while at < input.len() {
         let end = line_end(input, at);
-        s = step_line(&input[at..end], s, words, numbers);
+        s = step_line(rt, &input[at..end], s, words, numbers)?;
         if end == input.len() {
-            return;
+            return Ok(());
         }
         at = end + 1;
     }
+    Ok(())
 }
 
-fn main() {
-    let mut input = io::large_buffer();
+fn main(rt: HostRuntime) -> io::Result<()> {
+    let mut input = [0; ROOM];
     let mut words = [0u32; 1600];
     let mut numbers = [0u64; 1600];
-    let n = io::read_full(STDIN, &mut input);
-    run(&input[..n], &mut words, &mut numbers);
+    let n = reading::first_bytes(&mut rt.reader(), &mut input)?;
+    run(&rt, &input[..n], &mut words, &mut numbers)
 }

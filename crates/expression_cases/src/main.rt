@@ -3,81 +3,90 @@
 // Promises: nothing but that it ends and touches no byte out of range; what it prints is held to the stored output.
 // A line that begins with '#' is copied to the output. A case is a letter, ':' and a text; the letter says which names the triggers
 // have: see the functions below. \n, \r, \t, \\ and \xNN are bytes that a line cannot hold.
+#![tactic(auto)]
+
 ghost use Rattle.std.specs.Prelude.{◌≤◌, ◌<◌, length};
 
 use grammar::Verdict;
+use std::io;
 
-const STDIN: i32 = 0;
-
-const STDOUT: i32 = 1;
+// As many bytes of input are read.
+const ROOM: usize = 65536;
 
 // A byte that a line spells, and where it goes on.
-#[derive(Drop)]
+#[derive(Clone, Copy)]
 struct Spelt {
     byte: u8,
     next: usize,
 }
 
-fn say(text: &[u8]) {
-    io::write_all(STDOUT, text);
+fn say(rt: &impl Print, text: &[u8]) -> io::Result<()> {
+    rt.write_all(text)
 }
 
-fn say_word(w: u32) {
-    say(b" ");
-    io::print_decimal(STDOUT, w as u64);
+fn say_word(rt: &impl Print, w: u32) -> io::Result<()> {
+    say(rt, b" ")?;
+    rt.print(w as u64)
 }
 
-fn say_words(words: &[u32]) {
+fn say_words(rt: &impl Print, words: &[u32]) -> io::Result<()> {
     let mut i = 0;
     while i < words.len() {
-        say_word(words[i]);
+        say_word(rt, words[i])?;
         i += 1;
     }
+    Ok(())
 }
 
 // One text, with the names that stand in the file.
-fn case(text: &[u8], file: &[u8], starts: &[usize], ends: &[usize]) {
+fn case(
+    rt: &impl Print,
+    text: &[u8],
+    file: &[u8],
+    starts: &[usize],
+    ends: &[usize],
+) -> io::Result<()> {
     let answer = expression::compile(text, file, starts, ends);
     let count = answer.count;
     let words = answer.words;
     let verdict = answer.verdict;
-    say(b"[");
-    say(text);
-    say(b"]");
+    say(rt, b"[")?;
+    say(rt, text)?;
+    say(rt, b"]")?;
     match verdict {
-        Verdict::Good => say_words(&words[..count]),
-        Verdict::Broken => say(b" refused 11"),
-        Verdict::Unknown => say(b" refused 12"),
-    }
-    say(b"\n");
+        Verdict::Good => say_words(rt, &words[..count]),
+        Verdict::Broken => say(rt, b" refused 11"),
+        Verdict::Unknown => say(rt, b" refused 12"),
+    }?;
+    say(rt, b"\n")
 }
 
 // a, b, c and a name of 32 letters.
-fn named(text: &[u8]) {
+fn named(rt: &impl Print, text: &[u8]) -> io::Result<()> {
     let file = b"a b c abcdefghijklmnopqrstuvwxyz_01234";
     let starts = [0usize, 2, 4, 6];
     let ends = [1usize, 3, 5, 38];
-    case(text, file, &starts, &ends);
+    case(rt, text, file, &starts, &ends)
 }
 
 // a twice, and a name that is an operator.
-fn twice(text: &[u8]) {
+fn twice(rt: &impl Print, text: &[u8]) -> io::Result<()> {
     let file = b"a AND";
     let starts = [0usize, 0, 2];
     let ends = [1usize, 1, 5];
-    case(text, file, &starts, &ends);
+    case(rt, text, file, &starts, &ends)
 }
 
 // Names cut at the end of the file, ends before starts, more starts than ends.
-fn cut(text: &[u8]) {
+fn cut(rt: &impl Print, text: &[u8]) -> io::Result<()> {
     let file = b"abc";
     let starts = [0usize, 1, 2, 9, 0];
     let ends = [1usize, 99, 1, 12];
-    case(text, file, &starts, &ends);
+    case(rt, text, file, &starts, &ends)
 }
 
 // 33 names: w is the last and the one at `from`, the others are v.
-fn many(text: &[u8], from: usize)
+fn many(rt: &impl Print, text: &[u8], from: usize) -> io::Result<()>
     requires { from < 33 }
 {
     let file = b"vw";
@@ -87,7 +96,7 @@ fn many(text: &[u8], from: usize)
     ends[32] = 2;
     starts[from] = 1;
     ends[from] = 2;
-    case(text, file, &starts, &ends);
+    case(rt, text, file, &starts, &ends)
 }
 
 // The digit of base 16 that a byte stands for.
@@ -151,30 +160,29 @@ fn spell(text: &[u8], out: &mut [u8]) -> usize
     n
 }
 
-fn show_case(kind: u8, text: &[u8]) {
+fn show_case(rt: &impl Print, kind: u8, text: &[u8]) -> io::Result<()> {
     match kind {
-        b'n' => named(text),
-        b't' => twice(text),
-        b'c' => cut(text),
-        b'v' => many(text, 32),
-        b'w' => many(text, 31),
-        _ => {}
+        b'n' => named(rt, text),
+        b't' => twice(rt, text),
+        b'c' => cut(rt, text),
+        b'v' => many(rt, text, 32),
+        b'w' => many(rt, text, 31),
+        _ => Ok(()),
     }
 }
 
-fn show_line(line: &[u8]) {
+fn show_line(rt: &impl Print, line: &[u8]) -> io::Result<()> {
     if line.len() < 2 {
-        return;
+        return Ok(());
     }
     let kind = line[0];
     if kind == b'#' {
-        say(line);
-        say(b"\n");
-        return;
+        say(rt, line)?;
+        return say(rt, b"\n");
     }
     let mut text = [0; 256];
     let n = spell(&line[2..], &mut text);
-    show_case(kind, &text[..n]);
+    show_case(rt, kind, &text[..n])
 }
 
 // Where the line that begins at `from` ends.
@@ -193,17 +201,18 @@ fn line_end(s: &[u8], from: usize) -> usize
 }
 
 // The lines of the input, in order.
-fn show_lines(input: &[u8]) {
+fn show_lines(rt: &impl Print, input: &[u8]) -> io::Result<()> {
     let mut from = 0;
     while from < input.len() {
         let end = line_end(input, from);
-        show_line(&input[from..end]);
+        show_line(rt, &input[from..end])?;
         from = end + 1;
     }
+    Ok(())
 }
 
-fn main() {
-    let mut input = io::large_buffer();
-    let n = io::read_full(STDIN, &mut input);
-    show_lines(&input[..n]);
+fn main(rt: HostRuntime) -> io::Result<()> {
+    let mut input = [0; ROOM];
+    let n = reading::first_bytes(&mut rt.reader(), &mut input)?;
+    show_lines(&rt, &input[..n])
 }

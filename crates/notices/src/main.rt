@@ -3,12 +3,14 @@
 //
 // Promises: which these are is what `omissions` promises; that they are printed so is held to the stored output. A file longer than the buffer
 // is cut there; it is still too long, and a refused file has no notices.
+#![tactic(auto)]
+
 use element::fields;
+use std::io;
 use walk::tags;
 
-const STDIN: i32 = 0;
-
-const STDOUT: i32 = 1;
+// As many bytes are looked at.
+const ROOM: usize = 65536;
 
 // An element has four bytes at least, so that no file that is accepted skips more.
 const MOST: usize = 8192;
@@ -16,56 +18,66 @@ const MOST: usize = 8192;
 // No more triggers are accepted.
 const TRIGGERS: usize = 32;
 
-fn say(text: &[u8]) {
-    io::write_all(STDOUT, text);
+fn say(rt: &impl Print, text: &[u8]) -> io::Result<()> {
+    rt.write_all(text)
 }
 
 // A name in the file, and the place of its element. The name lies in the file, which is looked at once more for the sake of safety.
-fn tell(what: &[u8], file: &[u8], from: usize, to: usize, place: usize) {
+fn tell(
+    rt: &impl Print,
+    what: &[u8],
+    file: &[u8],
+    from: usize,
+    to: usize,
+    place: usize,
+) -> io::Result<()> {
     if to < from {
-        return;
+        return Ok(());
     }
     if file.len() < to {
-        return;
+        return Ok(());
     }
-    say(what);
-    say(&file[from..to]);
-    say(b"\nplace=");
-    io::print_decimal(STDOUT, place as u64);
-    say(b"\n");
+    say(rt, what)?;
+    say(rt, &file[from..to])?;
+    say(rt, b"\nplace=")?;
+    rt.print(place as u64)?;
+    say(rt, b"\n")
 }
 
-fn tell_skipped(file: &[u8]) {
+fn tell_skipped(rt: &impl Print, file: &[u8]) -> io::Result<()> {
     let mut places = [0; MOST];
     let n = omissions::skipped(file, &mut places);
     let m = lists::least(n, MOST);
     let mut i = 0;
     while i < m {
         let name = tags::name_of(file, places[i]);
-        tell(b"skipped=", file, name.from, name.to, places[i]);
+        tell(rt, b"skipped=", file, name.from, name.to, places[i])?;
         i += 1;
     }
+    Ok(())
 }
 
-fn tell_unnamed(file: &[u8]) {
+fn tell_unnamed(rt: &impl Print, file: &[u8]) -> io::Result<()> {
     let mut places = [0; TRIGGERS];
     let n = omissions::unnamed(file, &mut places);
     let m = lists::least(n, TRIGGERS);
     let mut i = 0;
     while i < m {
         let name = fields::value_at(file, places[i], b"name");
-        tell(b"unnamed=", file, name.from, name.to, places[i]);
+        tell(rt, b"unnamed=", file, name.from, name.to, places[i])?;
         i += 1;
     }
+    Ok(())
 }
 
-fn main() {
-    let mut space = io::large_buffer();
-    let n = io::read_full(STDIN, &mut space);
+fn main(rt: HostRuntime) -> io::Result<()> {
+    let mut space = [0; ROOM];
+    let n = reading::first_bytes(&mut rt.reader(), &mut space)?;
     let file = &space[..n];
-    tell_skipped(file);
-    tell_unnamed(file);
+    tell_skipped(&rt, file)?;
+    tell_unnamed(&rt, file)?;
     if omissions::is_silent(file) {
-        say(b"silent=1\n");
+        say(&rt, b"silent=1\n")?;
     }
+    Ok(())
 }

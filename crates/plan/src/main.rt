@@ -1,17 +1,19 @@
 // Prints what the plan of the file on standard input says, or its refusal.
 //
 // Promises: the bytes are those of `printing::print_answer` for `Form::Plan`. A file longer than the buffer is cut there; it is still too long, and refused for that.
+#![tactic(auto)]
+
 use printing::Form;
+use std::io;
 
-const STDIN: i32 = 0;
+// As many bytes are looked at.
+const ROOM: usize = 65536;
 
-const STDOUT: i32 = 1;
-
-fn main() {
-    let mut file = io::large_buffer();
-    let n = io::read_full(STDIN, &mut file);
+fn main(rt: HostRuntime) -> io::Result<()> {
+    let mut file = [0; ROOM];
+    let n = reading::first_bytes(&mut rt.reader(), &mut file)?;
     let mut words = [0; 1590];
-    let mut text = io::buffer();
+    let mut text = [0; 4096];
     let m = printing::print_answer(Form::Plan, &file[..n], &mut words, &mut text);
-    io::write_all(STDOUT, &text[..m]);
+    rt.write_all(&text[..m])
 }

@@ -2,13 +2,12 @@
 //
 // Promises: nothing but that it ends and touches no byte out of range; what it prints is held to the stored output.
 // The input has for each case a line `N text`, right behind it the N bytes of a file, and a line end.
+#![tactic(auto)]
+
 ghost use Rattle.std.specs.Prelude.{◌+◌, ◌≤◌, min, ◌≡◌, length};
 
 use printing::Form;
-
-const STDIN: i32 = 0;
-
-const STDOUT: i32 = 1;
+use std::io;
 
 // Room for the input, in which two files have 32,768 bytes or more.
 const ROOM: usize = 131072;
@@ -36,31 +35,32 @@ fn behind(s: &[u8], i: usize, n: usize) -> usize
     i + lists::least(n, s.len() - i)
 }
 
-fn show(title: &[u8], file: &[u8], words: &mut [u32]) {
-    let mut text = io::buffer();
+fn show(rt: &impl Print, title: &[u8], file: &[u8], words: &mut [u32]) -> io::Result<()> {
+    let mut text = [0; 4096];
     let n = printing::print_answer(Form::Plan, file, words, &mut text);
-    io::write_all(STDOUT, b"#");
-    io::write_all(STDOUT, title);
-    io::write_all(STDOUT, b"\n");
-    io::write_all(STDOUT, &text[..n]);
+    rt.write_all(b"#")?;
+    rt.write_all(title)?;
+    rt.write_all(b"\n")?;
+    rt.write_all(&text[..n])
 }
 
-fn cases(input: &[u8], words: &mut [u32]) {
+fn cases(rt: &impl Print, input: &[u8], words: &mut [u32]) -> io::Result<()> {
     let mut i = 0;
     while i < input.len() {
-        let e = bytes::scan::find(input, i, input.len(), b'\n');
-        let t = bytes::scan::find(input, i, e, b' ');
+        let e = i + reading::place_of(b'\n', &input[i..]);
+        let t = i + reading::place_of(b' ', &input[i..e]);
         let n = number(&input[i..t]);
         let a = behind(input, e, 1);
         let b = behind(input, a, n);
-        show(&input[t..e], &input[a..b], words);
+        show(rt, &input[t..e], &input[a..b], words)?;
         i = behind(input, b, 1);
     }
+    Ok(())
 }
 
-fn main() {
+fn main(rt: HostRuntime) -> io::Result<()> {
     let mut input = [0; ROOM];
-    let n = io::read_full(STDIN, &mut input);
+    let n = reading::first_bytes(&mut rt.reader(), &mut input)?;
     let mut words = [0; 1590];
-    cases(&input[..n], &mut words);
+    cases(&rt, &input[..n], &mut words)
 }

@@ -4,60 +4,59 @@
 // A line that begins with '#' is copied to the output: it names the decision that the cases below it belong to. A case is a letter,
 // ':' and a file: 'f' the file itself, 'm' with blanks behind it up to 32,768 bytes, 'o' up to 32,769, 'x' up to 32,768 with an x at
 // their end, 'p' each text that the file starts with. \n, \r, \t, \\ and \xNN are bytes that a line cannot hold. '/' begins a comment.
+#![tactic(auto)]
+
 ghost use Rattle.std.specs.Prelude.{◌≡◌, ◌≤◌, ◌<◌, length};
 
 use shape::Shape;
+use std::io;
 
-const STDIN: i32 = 0;
-
-const STDOUT: i32 = 1;
+// As many bytes of input are read.
+const ROOM: usize = 65536;
 
 // A byte that a line spells, and where it goes on.
-#[derive(Drop)]
+#[derive(Clone, Copy)]
 struct Spelt {
     byte: u8,
     next: usize,
 }
 
-fn say(text: &[u8]) {
-    io::write_all(STDOUT, text);
+fn say(rt: &impl Print, text: &[u8]) -> io::Result<()> {
+    rt.write_all(text)
 }
 
-fn say_shape(shape: Shape) {
+fn say_shape(rt: &impl Print, shape: Shape) -> io::Result<()> {
     match shape {
-        Shape::Whole => say(b"whole"),
-        Shape::TooLong => say(b"too long"),
-        Shape::Broken(p) => {
-            io::print_decimal(STDOUT, p as u64);
-        }
+        Shape::Whole => say(rt, b"whole"),
+        Shape::TooLong => say(rt, b"too long"),
+        Shape::Broken(p) => rt.print(p as u64),
     }
 }
 
-fn show(file: &[u8]) {
+fn show(rt: &impl Print, file: &[u8]) -> io::Result<()> {
     let shape = xml::read_shape(file);
-    say_shape(shape);
-    say(b"\n");
+    say_shape(rt, shape)?;
+    say(rt, b"\n")
 }
 
 // Behind the n-th number: twenty to a line.
-fn say_gap(n: usize) {
+fn say_gap(rt: &impl Print, n: usize) -> io::Result<()> {
     if n % 20 == 0 {
-        say(b"\n");
-        return;
+        return say(rt, b"\n");
     }
-    say(b" ");
+    say(rt, b" ")
 }
 
 // Each text that the file starts with, and the file.
-fn show_prefixes(file: &[u8]) {
+fn show_prefixes(rt: &impl Print, file: &[u8]) -> io::Result<()> {
     let mut end = 0;
     while end < file.len() {
         let shape = xml::read_shape(&file[..end]);
-        say_shape(shape);
+        say_shape(rt, shape)?;
         end += 1;
-        say_gap(end);
+        say_gap(rt, end)?;
     }
-    show(file);
+    show(rt, file)
 }
 
 // The digit of base 16 that a byte stands for.
@@ -134,34 +133,32 @@ fn size_of(kind: u8, n: usize) -> usize
 }
 
 // A case; the buffer holds what stands behind its text.
-fn show_case(kind: u8, text: &[u8], file: &mut [u8])
+fn show_case(rt: &impl Print, kind: u8, text: &[u8], file: &mut [u8]) -> io::Result<()>
     requires { 32769 ≡ length file.old }
 {
     let n = spell(text, file);
     if kind == b'p' {
-        show_prefixes(&file[..n]);
-        return;
+        return show_prefixes(rt, &file[..n]);
     }
     let size = size_of(kind, n);
-    show(&file[..size]);
+    show(rt, &file[..size])
 }
 
-fn show_line(line: &[u8]) {
+fn show_line(rt: &impl Print, line: &[u8]) -> io::Result<()> {
     if line.len() < 2 {
-        return;
+        return Ok(());
     }
     let kind = line[0];
     if kind == b'/' {
-        return;
+        return Ok(());
     }
     if kind == b'#' {
-        say(line);
-        say(b"\n");
-        return;
+        say(rt, line)?;
+        return say(rt, b"\n");
     }
     let mut file = [b' '; 32769];
     file[32767] = if kind == b'x' { b'x' } else { b' ' };
-    show_case(kind, &line[2..], &mut file);
+    show_case(rt, kind, &line[2..], &mut file)
 }
 
 // Where the line that begins at `from` ends.
@@ -180,17 +177,18 @@ fn line_end(s: &[u8], from: usize) -> usize
 }
 
 // The lines of the input, in order.
-fn show_lines(input: &[u8]) {
+fn show_lines(rt: &impl Print, input: &[u8]) -> io::Result<()> {
     let mut from = 0;
     while from < input.len() {
         let end = line_end(input, from);
-        show_line(&input[from..end]);
+        show_line(rt, &input[from..end])?;
         from = end + 1;
     }
+    Ok(())
 }
 
-fn main() {
-    let mut input = io::large_buffer();
-    let n = io::read_full(STDIN, &mut input);
-    show_lines(&input[..n]);
+fn main(rt: HostRuntime) -> io::Result<()> {
+    let mut input = [0; ROOM];
+    let n = reading::first_bytes(&mut rt.reader(), &mut input)?;
+    show_lines(&rt, &input[..n])
 }
