@@ -6,39 +6,20 @@ cd "$(dirname "$0")/.." || exit 2
 
 say() { echo "host: $*"; }
 
-# The kit stands where the command rt does.
-kit() {
-    self=$(command -v rt) || return 1
-    while [ -L "$self" ]; do
-        link=$(readlink "$self")
-        case $link in /*) self=$link ;; *) self=$(dirname "$self")/$link ;; esac
-    done
-    cd "$(dirname "$self")/.." && pwd -P
-}
-
 compiler=''
 for c in cc x86_64-linux-gnu-gcc; do
     case $("$c" -dumpmachine 2>/dev/null) in x86_64-*) compiler=$c; break ;; esac
 done
 [ -n "$compiler" ] || { say "not run: there is no C compiler for x86-64 (cc, x86_64-linux-gnu-gcc)"; exit 0; }
 
-# On another machine the program runs under the kit's emulator, and brings its C library along.
-emulator='' static=''
-machine=$(uname -m)
-if [ "$machine" != x86_64 ]; then
-    emulator=${RATTLE_HOME:-$(kit)}/on/$machine/toolchain/bin/qemu-x86_64
-    [ -x "$emulator" ] || { say "not run: programs are for x86-64, and the kit of the command rt has no emulator for $machine"; exit 0; }
-    static=-static
-fi
-
 folder=$PWD/target/host
 ./steamfiddle install "$folder" || { say "FAILED: ./steamfiddle install"; exit 1; }
 # what `pkg-config --cflags --libs steamfiddle_converter steamfiddle_logger` says of that folder
-"$compiler" -std=c99 -Wall -Wextra -pedantic -Werror -O2 $static "-I$folder/include" -o "$folder/host" examples/host.c \
+"$compiler" -std=c99 -Wall -Wextra -pedantic -Werror -O2 "-I$folder/include" -o "$folder/host" examples/host.c \
     "-L$folder/lib" -lsteamfiddle_converter -lsteamfiddle_logger || { say "FAILED: examples/host.c does not compile or link"; exit 1; }
 for events in examples/*.events; do
     name=${events%.events}
-    ${emulator:+"$emulator"} "$folder/host" "$name.xml" "$events" >"$folder/out" || { say "FAILED: the program ended with status $? on $events"; exit 1; }
+    "$folder/host" "$name.xml" "$events" >"$folder/out" || { say "FAILED: the program ended with status $? on $events"; exit 1; }
     diff -u "$name.out" "$folder/out" || { say "FAILED: what was printed is not what $name.out has"; exit 1; }
 done
 say "ok, examples/*.xml converted, loaded and run on examples/*.events from C; examples/*.out has what was printed"

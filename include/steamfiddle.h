@@ -1,6 +1,6 @@
 /* Steamfiddle for hosts in C and C++: configuration files of CAN bus loggers to plans, and plans run on events.
 
-   Two libraries, for x86-64; `./steamfiddle install DIR` puts them into DIR/lib and this header into DIR/include:
+   Two libraries, for x86-64 (x86-64-v2: processors with SSE4.2); `./steamfiddle install DIR` puts them into DIR/lib and this header into DIR/include:
      libsteamfiddle_converter.a   steamfiddle_convert
      libsteamfiddle_logger.a      steamfiddle_load, steamfiddle_replay; nothing in it knows of files
    Either is linked alone or both together. All they take from the C library is memcpy, memmove and memset.
@@ -13,8 +13,8 @@
    - Within these rules every call answers, whatever the buffers hold. No call allocates, and none stops the program.
    - Nothing is kept between calls, so calls may run in parallel threads, as long as no buffer that one writes is used by another.
 
-   Each function is proved to meet the contract in its crate: crates/converter_c/src/lib.rt, crates/logger_c/src/lib.rt. The rules that the
-   contracts cite stand in specs/ of the crates; docs/FILES.md and docs/EVENTS.md tell them in words. */
+   Each function is proved to meet the contract in its crate: crates/converter_archive/src/lib.rt, crates/logger_archive/src/lib.rt. The rules that
+   the contracts cite stand in specs/ of the crates; docs/FILES.md and docs/EVENTS.md tell them in words. */
 #ifndef STEAMFIDDLE_H
 #define STEAMFIDDLE_H
 
@@ -39,9 +39,9 @@ extern "C" {
 #define STEAMFIDDLE_RECORD_BYTES 32
 
 /* Bytes of stack that a call needs, as measured by bench/stack.c, with some to spare. Loading and replaying are small enough for firmware. */
-#define STEAMFIDDLE_CONVERT_STACK 98304 /* measured: 93,496 at most */
-#define STEAMFIDDLE_LOAD_STACK 1024     /* measured: 312 */
-#define STEAMFIDDLE_REPLAY_STACK 2048   /* measured: 1,661 */
+#define STEAMFIDDLE_CONVERT_STACK 98304 /* measured: 92,648 at most */
+#define STEAMFIDDLE_LOAD_STACK 1024     /* measured: 256 */
+#define STEAMFIDDLE_REPLAY_STACK 2048   /* measured: 1,584 */
 
 /* ---- Refusals: of files 1 to 13, of plans and events 20 to 25 */
 enum steamfiddle_refusal {
