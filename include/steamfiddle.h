@@ -39,9 +39,9 @@ extern "C" {
 #define STEAMFIDDLE_RECORD_BYTES 32
 
 /* Bytes of stack that a call needs, as measured by bench/stack.c, with some to spare. Loading and replaying are small enough for firmware. */
-#define STEAMFIDDLE_CONVERT_STACK 98304 /* measured: 92,648 at most */
-#define STEAMFIDDLE_LOAD_STACK 1024     /* measured: 256 */
-#define STEAMFIDDLE_REPLAY_STACK 2048   /* measured: 1,584 */
+#define STEAMFIDDLE_CONVERT_STACK 98304 /* measured: 94,056 at most */
+#define STEAMFIDDLE_LOAD_STACK 1024     /* measured: 180 */
+#define STEAMFIDDLE_REPLAY_STACK 2048   /* measured: 1,428 */
 
 /* ---- Refusals: of files 1 to 13, of plans and events 20 to 25 */
 enum steamfiddle_refusal {

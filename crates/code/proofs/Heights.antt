@@ -1,20 +1,21 @@
 -- The loader's heights are the heights of the machine's stack; and words run as their instructions do.
 use Prim.Native.Nat.{ℕ, ◌+◌, ◌-◌, ◌≤◌, ◌<◌}
 use native.Mathlib.Omega.{arith}
-use mathlib.Core.Path.{◌≡◌, refl, ap, fun_ext, ◌∙◌}
+use mathlib.Core.Path.{◌≡◌, refl, ap, fun_ext}
 use mathlib.Core.Bool.{Bool, true, false, cond, ◌&&◌, ◌||◌}
-use mathlib.Core.Option.{Option, none, some, none-ne-some}
+use Rattle.std.specs.Prelude.{Option, None, Some, option_and_then, option_map}
+use Rattle.std.proofs.lemmas.Option.{none-some}
 use mathlib.Core.List.{List, [], ◌∷◌, map}
 use lib.ListN.{length}
 use lib.Dec.{leb, ltb}
 use borrow.Author.Tests.{lt-ltb, le-leb, ltb-true}
-use Rattle.code.specs.Code.{Op, push, both, either, invert, word_of, op_of, and_then, top_two, step_op, step_word, run_words, KnownTriggers}
+use Rattle.code.specs.Code.{Op, push, both, either, invert, word_of, op_of, top_two, step_op, step_word, run_words, KnownTriggers}
 use Rattle.code.specs.HeightsCode.{run_ops, rise_op, rise, height}
 use Rattle.code.proofs.Words.{op_push, push_word}
 
+-- the height of the stack, if there is one
 abbrev pub length_of : Option (List Bool) → Option ℕ
-length_of none = none
-length_of (some st) = some (length st)
+length_of = option_map length
 
 -- what an instruction pushes is one of t triggers
 unfoldable pub Below : ℕ → Op → Type 0
@@ -28,17 +29,17 @@ Pushes t [] = Unit {0}
 Pushes t (o ∷ c) = Below t o × Pushes t c
 
 -- one instruction
-rise_joined : (f : Bool → Bool → Bool) (st : List Bool) → cond (leb 2 (length st)) (some (length st - 1)) none ≡ length_of (top_two f st)
+rise_joined : (f : Bool → Bool → Bool) (st : List Bool) → cond (leb 2 (length st)) (Some (length st - 1)) None ≡ length_of (top_two f st)
 rise_joined f [] = refl
 rise_joined f (b ∷ []) = refl
-rise_joined f (b ∷ (a ∷ st)) = rw (le-leb 2 (length (b ∷ (a ∷ st))) (omega arith)) (ap some (omega arith))
+rise_joined f (b ∷ (a ∷ st)) = rw (le-leb 2 (length (b ∷ (a ∷ st))) (omega arith)) (ap Some (omega arith))
 
 rise_step : (room t : ℕ) (v : ℕ → Bool) (o : Op) (st : List Bool) → Below t o → rise_op room t o (length st) ≡ length_of (step_op room v o st)
 unfolding rise_op step_op Below
 rise_step room t v (push i) st p = rw (lt-ltb i t p) (go (ltb (length st) room))
   where
-    go : (b : Bool) → cond b (some (length st + 1)) none ≡ length_of (cond b (some (v i ∷ st)) none)
-    go true = ap some (omega arith)
+    go : (b : Bool) → cond b (Some (length st + 1)) None ≡ length_of (cond b (Some (v i ∷ st)) None)
+    go true = ap Some (omega arith)
     go false = refl
 rise_step room t v both st p = rise_joined ◌&&◌ st
 rise_step room t v either st p = rise_joined ◌||◌ st
@@ -46,7 +47,7 @@ rise_step room t v invert [] p = refl
 rise_step room t v invert (a ∷ st) p = rw (le-leb 1 (length (a ∷ st)) (omega arith))
 
 -- one word
-word_below : (t w : ℕ) (o : Op) → (w < 32 → w < t) → op_of w ≡ some o → Below t o
+word_below : (t w : ℕ) (o : Op) → (w < 32 → w < t) → op_of w ≡ Some o → Below t o
 unfolding Below
 word_below t w (push i) k e = let q = push_word w i e in omega (arith, k q.1)
 word_below t w both k e = tt
@@ -58,9 +59,10 @@ rise_word : (room t : ℕ) (v : ℕ → Bool) (w : ℕ) (st : List Bool) → (w 
 unfolding rise step_word
 rise_word room t v w st k = go (op_of w) refl
   where
-    go : (x : Option Op) → op_of w ≡ x → and_then x (λ o. rise_op room t o (length st)) ≡ length_of (and_then x (λ o. step_op room v o st))
-    go none e = refl
-    go (some o) e = rise_step room t v o st (word_below t w o k e)
+    go : (x : Option Op) → op_of w ≡ x
+        → option_and_then (λ o. rise_op room t o (length st)) x ≡ length_of (option_and_then (λ o. step_op room v o st) x)
+    go None e = refl
+    go (Some o) e = rise_step room t v o st (word_below t w o k e)
 
 -- all words: where each pushed trigger is known, the loader's height is that of the stack, whatever the states
 pub height_words : (room t : ℕ) (v : ℕ → Bool) (c : List ℕ) (st : List Bool) → KnownTriggers t c
@@ -72,29 +74,29 @@ height_words room t v (w ∷ c) st k =
   where
     go : (x : Option ℕ) (y : Option (List Bool)) → x ≡ length_of y
         → ((u : List Bool) → height room t c (length u) ≡ length_of (run_words room v c u))
-        → and_then x (height room t c) ≡ length_of (and_then y (run_words room v c))
-    go x none e ih = rw e
-    go x (some u) e ih = rw e (ih u)
+        → option_and_then (height room t c) x ≡ length_of (option_and_then (run_words room v c) y)
+    go x None e ih = rw e
+    go x (Some u) e ih = rw e (ih u)
 
 -- where the loader finds a height, each pushed trigger is known
-rise_known : (room t w h k : ℕ) → rise room t w h ≡ some k → w < 32 → w < t
+rise_known : (room t w h k : ℕ) → rise room t w h ≡ Some k → w < 32 → w < t
 unfolding rise rise_op
 rise_known room t w h k e p = go (ltb w t) refl (rw (op_push w p) at e)
   where
-    go : (b : Bool) → ltb w t ≡ b → cond (b && ltb h room) (some (h + 1)) none ≡ some k → w < t
+    go : (b : Bool) → ltb w t ≡ b → cond (b && ltb h room) (Some (h + 1)) None ≡ Some k → w < t
     go true q e = ltb-true w t q
-    go false q e = absurd (none-ne-some k e)
+    go false q e = absurd (none-some k e)
 
-pub height_known : (room t : ℕ) (c : List ℕ) (h k : ℕ) → height room t c h ≡ some k → KnownTriggers t c
+pub height_known : (room t : ℕ) (c : List ℕ) (h k : ℕ) → height room t c h ≡ Some k → KnownTriggers t c
 unfolding height KnownTriggers
 height_known room t [] h k e = tt
 height_known room t (w ∷ c) h k e = go (rise room t w h) refl e (λ j. height_known room t c j k)
   where
-    go : (x : Option ℕ) → rise room t w h ≡ x → and_then x (height room t c) ≡ some k
-        → ((j : ℕ) → height room t c j ≡ some k → KnownTriggers t c)
+    go : (x : Option ℕ) → rise room t w h ≡ x → option_and_then (height room t c) x ≡ Some k
+        → ((j : ℕ) → height room t c j ≡ Some k → KnownTriggers t c)
         → (w < 32 → w < t) × KnownTriggers t c
-    go none q e ih = absurd (none-ne-some k e)
-    go (some j) q e ih = (rise_known room t w h j q, ih j e)
+    go None q e ih = absurd (none-some k e)
+    go (Some j) q e ih = (rise_known room t w h j q, ih j e)
 
 -- instructions: their words push the same triggers, and run as they do
 pub pushes_known : (t : ℕ) (c : List Op) → Pushes t c → KnownTriggers t (map word_of c)
@@ -105,7 +107,7 @@ pushes_known t (both ∷ c) p = (λ q. absurd (omega arith), pushes_known t c p.
 pushes_known t (either ∷ c) p = (λ q. absurd (omega arith), pushes_known t c p.1)
 pushes_known t (invert ∷ c) p = (λ q. absurd (omega arith), pushes_known t c p.1)
 
-op_word : (t : ℕ) (o : Op) → t ≤ 32 → Below t o → op_of (word_of o) ≡ some o
+op_word : (t : ℕ) (o : Op) → t ≤ 32 → Below t o → op_of (word_of o) ≡ Some o
 unfolding Below op_of word_of
 op_word t (push i) h p = op_push i (omega arith)
 op_word t both h p = refl
@@ -117,8 +119,4 @@ pub words_run : (room t : ℕ) (v : ℕ → Bool) → t ≤ 32 → (c : List Op)
 unfolding run_words run_ops step_word Pushes
 words_run room t v h [] st p = refl
 words_run room t v h (o ∷ c) st p =
-    rw (op_word t o h p.0) (ap (and_then (step_op room v o st)) (fun_ext (λ u. words_run room t v h c u p.1)))
-
-pub height_run : (room t : ℕ) (v : ℕ → Bool) → t ≤ 32 → (c : List Op) (st : List Bool) → Pushes t c
-    → height room t (map word_of c) (length st) ≡ length_of (run_ops room v c st)
-height_run room t v h c st p = height_words room t v (map word_of c) st (pushes_known t c p) ∙ ap length_of (words_run room t v h c st p)
+    rw (op_word t o h p.0) (ap (λ (f : List Bool → Option (List Bool)). option_and_then f (step_op room v o st)) (fun_ext (λ u. words_run room t v h c u p.1)))

@@ -4,7 +4,7 @@ use native.Mathlib.Omega.{arith}
 use native.Mathlib.Numerals.{add-one}
 use mathlib.Core.Path.{◌≡◌, refl}
 use mathlib.Core.Bool.{Bool, true, false}
-use mathlib.Core.Option.{none, some}
+use Rattle.std.specs.Prelude.{None, Some}
 use mathlib.Core.List.{List, ◌∷◌}
 use lib.ListN.{length, drop, get_or}
 use lib.Seq.{drop-cons}
@@ -15,28 +15,28 @@ use Rattle.code.specs.Code.{push, both, either, invert, op_of}
 pub word_at : (c : List ℕ) (i : ℕ) → i < length c → drop i c ≡ get_or c i 0 ∷ drop (i + 1) c
 word_at c i h = rw (add-one, drop-cons c i 0)
 
-pub op_push : (w : ℕ) → w < 32 → op_of w ≡ some (push w)
+pub op_push : (w : ℕ) → w < 32 → op_of w ≡ Some (push w)
 unfolding op_of
 op_push w h = rw (lt-ltb w 32 h)
 
-pub op_both : (w : ℕ) → w ≡ 32 → op_of w ≡ some both
+pub op_both : (w : ℕ) → w ≡ 32 → op_of w ≡ Some both
 unfolding op_of
 op_both w e = rw e
 
-pub op_either : (w : ℕ) → w ≡ 33 → op_of w ≡ some either
+pub op_either : (w : ℕ) → w ≡ 33 → op_of w ≡ Some either
 unfolding op_of
 op_either w e = rw e
 
-pub op_invert : (w : ℕ) → w ≡ 34 → op_of w ≡ some invert
+pub op_invert : (w : ℕ) → w ≡ 34 → op_of w ≡ Some invert
 unfolding op_of
 op_invert w e = rw e
 
-pub op_none : (w : ℕ) → 34 < w → op_of w ≡ none
+pub op_none : (w : ℕ) → 34 < w → op_of w ≡ None
 unfolding op_of
 op_none w h = rw (le-ltb w 32 (omega arith), ne_eqb w 32 (omega arith), ne_eqb w 33 (omega arith), ne_eqb w 34 (omega arith))
 
 -- a word that pushes is the trigger's number
-pub push_word : (w i : ℕ) → op_of w ≡ some (push i) → (i ≡ w) × (w < 32)
+pub push_word : (w i : ℕ) → op_of w ≡ Some (push i) → (i ≡ w) × (w < 32)
 unfolding op_of
 push_word w i e = go (ltb w 32) (eqb w 32) (eqb w 33) (eqb w 34) refl refl refl refl
   where

@@ -8,50 +8,26 @@
 ghost use Rattle.std.specs.Prelude.{◌≡◌};
 ghost use Rattle.code.specs.Code.{limit};
 ghost use Rattle.code.specs.HeightsCode.{rise as rise_to, sound_code};
-ghost use Rattle.code.specs.LevelCode.{level_of};
 
 pub mod run;
 
 // How many values a stack holds at most.
 pub const LIMIT: usize = 24;
 
-// What code gives on the triggers' states.
-#[derive(Clone, Copy)]
-pub enum Value {
-    Is(bool),
-    Fault,
-}
-
-// A height of the stack, or that a word is at fault.
-#[derive(Clone, Copy)]
-enum Level {
-    To(usize),
-    Fault,
-}
-
-// How high a stack of height h stands after a word.
-fn rise(w: u32, h: usize, triggers: u32) -> Level
-    ensures { result ≡ level_of (rise_to limit triggers w h) }
+// How high a stack of height h stands after a word; none where the word is at fault. Words are numbers: one `match` by ranges is the form that paper 01
+// names for code, here and in `run::evaluate`.
+fn rise(w: u32, h: usize, triggers: u32) -> Option<usize>
+    ensures { result ≡ rise_to limit triggers w h }
 {
     match w {
-        0..=31 => {
-            if triggers <= w {
-                Level::Fault
-            } else if h < LIMIT {
-                Level::To(h + 1)
-            } else {
-                Level::Fault
-            }
-        }
-        32 | 33 => {
-            if 2 <= h {
-                Level::To(h - 1)
-            } else {
-                Level::Fault
-            }
-        }
-        34 => { if 1 <= h { Level::To(h) } else { Level::Fault } }
-        _ => Level::Fault,
+        0..=31 => if (w < triggers) & (h < LIMIT) {
+            Some(h + 1)
+        } else {
+            None
+        },
+        32 | 33 => if 2 <= h { Some(h - 1) } else { None },
+        34 => if 1 <= h { Some(h) } else { None },
+        _ => None,
     }
 }
 
@@ -59,18 +35,12 @@ fn rise(w: u32, h: usize, triggers: u32) -> Level
 pub fn code_ok(code: &[u32], triggers: u32) -> bool
     ensures { result ≡ sound_code triggers code.now }
 {
-    let mut h: usize = 0;
-    let mut i = 0;
-    while i < code.len() {
-        match rise(code[i], h, triggers) {
-            Level::To(k) => {
-                h = k;
-                i += 1;
-            }
-            Level::Fault => {
-                return false;
-            }
-        }
+    let mut h = 0;
+    for &w in code {
+        let Some(risen) = rise(w, h, triggers) else {
+            return false;
+        };
+        h = risen;
     }
     h == 1
 }

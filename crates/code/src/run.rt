@@ -1,87 +1,100 @@
 // Runs postfix code.
 //
 // Promises: `evaluate` answers what the stack machine of specs/Code.antt gives, for any words and states.
-ghost use Rattle.std.specs.Prelude.{◌≡◌, ◌<◌, ◌^◌, ◌∷◌};
-ghost use Rattle.std.proofs.Math.Option.{some};
+ghost use Rattle.std.specs.Prelude.{◌≡◌, ◌≤◌, ◌<◌, ◌^◌, [], ◌∷◌, ltb, Some, MatchOption};
 ghost use Rattle.code.specs.Code.{limit, only_value, value_on};
-ghost use Rattle.code.specs.RunCode.{top_of, bits_of, HoldsStack};
+ghost use Rattle.code.specs.RunCode.{bits_of};
 
-use crate::Value;
-
-const LIMIT: usize = crate::LIMIT;
+use crate::LIMIT;
 
 // A stack of truth values: h of them, as bits of a number, the top in the lowest.
 #[derive(Clone, Copy)]
 struct Stack {
     h: usize,
     bits: u32,
+    ghost few: { h ≤ limit },
+    ghost fits: { bits < 2 ^ h },
 }
 
-// The value on top.
-fn top(bits: u32) -> bool
-    ensures { result ≡ top_of bits }
-{
-    bits % 2 == 1
-}
-
-// The stack with one value more on top of h values, which are held as bits.
-fn pushed(h: usize, bits: u32, value: bool) -> Stack
-    requires { (h < limit) × (bits < 2 ^ h) }
-    ensures { HoldsStack result (value ∷ bits_of h bits) }
-{
-    Stack {
-        h: h + 1,
-        bits: 2 * bits + value as u32,
+impl Stack {
+    fn empty() -> Stack
+        ensures { bits_of result.h result.bits ≡ [] }
+    {
+        Stack { h: 0, bits: 0 }
     }
-}
 
-// What a stack gives at the end: the one value that is left.
-fn value_left(s: Stack) -> Value
-    ensures { result ≡ only_value (some (bits_of s.h s.bits)) }
-{
-    if s.h != 1 {
-        return Value::Fault;
+    // The top, and the stack below it; none where there is no value.
+    fn pop(self) -> Option<(bool, Stack)>
+        ensures { MatchOption result (bits_of self.h self.bits ≡ []) (λ x. (x.1.h < limit) × (bits_of self.h self.bits ≡ x.0 ∷ bits_of x.1.h x.1.bits)) }
+    {
+        if self.h < 1 {
+            return None;
+        }
+        let below = Stack {
+            h: self.h - 1,
+            bits: self.bits / 2,
+        };
+        Some((self.bits % 2 == 1, below))
     }
-    Value::Is(top(s.bits))
-}
 
-// Runs code on the triggers' states.
-pub fn evaluate(code: &[u32], states: [bool; 32]) -> Value
-    ensures { result ≡ value_on states code.now }
-{
-    let mut s = Stack { h: 0, bits: 0 };
-    let mut i = 0;
-    while i < code.len() {
-        let w = code[i];
-        // before the match, so that each arm ends the turn
-        i += 1;
-        match w {
-            0..=31 => {
-                if LIMIT <= s.h {
-                    return Value::Fault;
-                }
-                s = pushed(s.h, s.bits, states[w as usize]);
-            }
-            32 => {
-                if s.h < 2 {
-                    return Value::Fault;
-                }
-                s = pushed(s.h - 2, s.bits / 4, top(s.bits / 2) & top(s.bits));
-            }
-            33 => {
-                if s.h < 2 {
-                    return Value::Fault;
-                }
-                s = pushed(s.h - 2, s.bits / 4, top(s.bits / 2) | top(s.bits));
-            }
-            34 => {
-                if s.h < 1 {
-                    return Value::Fault;
-                }
-                s = pushed(s.h - 1, s.bits / 2, !top(s.bits));
-            }
-            _ => return Value::Fault,
+    fn has_room(self) -> bool
+        ensures { result ≡ ltb self.h limit }
+    {
+        self.h < LIMIT
+    }
+
+    // The stack with a value more, on top.
+    fn push(self, value: bool) -> Stack
+        requires { self.h < limit }
+        ensures { bits_of result.h result.bits ≡ value ∷ bits_of self.h self.bits }
+    {
+        Stack {
+            h: self.h + 1,
+            bits: 2 * self.bits + u32::from(value),
         }
     }
-    value_left(s)
+
+    // What it gives at the end: the one value that is left.
+    fn value_left(self) -> Option<bool>
+        ensures { result ≡ only_value (Some (bits_of self.h self.bits)) }
+    {
+        if self.h == 1 {
+            Some(self.bits % 2 == 1)
+        } else {
+            None
+        }
+    }
+}
+
+// Runs code on the triggers' states; none at a fault.
+pub fn evaluate(code: &[u32], states: [bool; 32]) -> Option<bool>
+    ensures { result ≡ value_on states code.now }
+{
+    let mut s = Stack::empty();
+    for &w in code {
+        s = match w {
+            0..=31 => {
+                if !s.has_room() {
+                    return None;
+                }
+                s.push(states[w as usize])
+            }
+            32 => {
+                let (b, left) = s.pop()?;
+                let (a, below) = left.pop()?;
+                below.push(a & b)
+            }
+            33 => {
+                let (b, left) = s.pop()?;
+                let (a, below) = left.pop()?;
+                below.push(a | b)
+            }
+            34 => {
+                let (a, below) = s.pop()?;
+                below.push(!a)
+            }
+            _ => return None,
+        };
+    }
+    s.value_left()
 }

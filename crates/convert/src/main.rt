@@ -1,6 +1,7 @@
 // Prints the words of the plan of the file on standard input, one to a line, or its refusal.
 //
-// Promises: the bytes are those of `printing::print_answer` for `Form::Words`. A file longer than the buffer is cut there; it is still too long, and refused for that.
+// Promises: the bytes are those of `printing::print_answer` for `Form::Words`. A file longer than the buffer is cut there; it is still too long, and
+// refused for that. `plan` is its twin but for the form: a program each, and what both do is `reading` and `printing`.
 #![tactic(auto)]
 
 use printing::Form;

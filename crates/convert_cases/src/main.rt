@@ -13,9 +13,8 @@
 
 ghost use Rattle.std.specs.Prelude.{◌+◌, ◌≤◌, min, ◌≡◌, length, IfOk};
 
-use converter::Converted;
+use file_rules::Refusal;
 use std::io;
-use text::texts;
 
 // As many bytes of input are read, and as many has a file.
 const LARGEST: usize = 65536;
@@ -25,12 +24,20 @@ const ROOM: usize = 1600;
 // Stands in every word of the buffer before a call.
 const UNTOUCHED: u32 = 7;
 
-// How an answer is told: in short, with the words that differ from the base's, or with all words.
-const SHORT: u8 = 0;
+// How an answer is told: in short, with the words that differ from the base's, or with all words. It is data of a case and no step to be run.
+#[derive(Clone, Copy, PartialEq, Eq)]
+enum How {
+    Short,
+    Changes,
+    All,
+}
 
-const CHANGES: u8 = 1;
-
-const ALL: u8 = 2;
+// The base file, and the words of its plan.
+#[derive(Clone, Copy)]
+struct Base<'a> {
+    file: &'a [u8],
+    words: &'a [u32],
+}
 
 fn say(rt: &impl Print, text: &[u8]) -> io::Result<()> {
     rt.write_all(text)
@@ -41,34 +48,17 @@ fn say_number(rt: &impl Print, before: &[u8], n: usize) -> io::Result<()> {
     rt.print(n as u64)
 }
 
-// The number that the digits spell, at most the room: a digit's low four bits are its worth.
-fn number(digits: &[u8]) -> usize
-    ensures { result ≤ 1600 }
-{
-    let mut n = 0;
-    let mut i = 0;
-    while i < digits.len() {
-        let d = digits[i] % 16;
-        n = lists::least(n * 10 + d as usize, ROOM);
-        i += 1;
-    }
-    n
-}
-
 // Where a text first stands. Where it does not, a case tests nothing: it says so and answers the end.
 fn find_text(rt: &impl Print, s: &[u8], text: &[u8]) -> io::Result<usize>
     ensures { IfOk result (λ i. i ≤ length s.now) }
 {
-    let mut i = 0;
-    while i < s.len() {
-        let e = i + lists::least(text.len(), s.len() - i);
-        if texts::same_text(&s[i..e], text) {
+    for i in 0..s.len() {
+        if s[i..].starts_with(text) {
             return Ok(i);
         }
-        i += 1;
     }
     say(rt, b"(not there) ")?;
-    Ok(i)
+    Ok(s.len())
 }
 
 // The offset behind the byte at i.
@@ -78,15 +68,13 @@ fn behind(s: &[u8], i: usize) -> usize
     if i < s.len() { i + 1 } else { s.len() }
 }
 
-// Puts a text at an offset and answers the offset behind it. What the input holds fits, so nothing is cut.
-fn put(text: &[u8], out: &mut [u8], at: usize) -> usize
-    requires { at ≤ length out.old }
-    ensures { result ≤ length out.old }
+// Puts a text at the front of what is lent and answers how long it is. What the input holds fits, so nothing is cut.
+fn put(text: &[u8], out: &mut [u8]) -> usize
+    ensures { result ≤ length out.new }
 {
-    let n = lists::least(text.len(), out.len() - at);
-    let e = at + n;
-    out[at..e].copy_from_slice(&text[..n]);
-    e
+    let n = text.len().min(out.len());
+    out[..n].copy_from_slice(&text[..n]);
+    n
 }
 
 // Writes the file with what stands from p to q replaced.
@@ -94,9 +82,9 @@ fn splice(file: &[u8], p: usize, q: usize, new: &[u8], out: &mut [u8]) -> usize
     requires { (p ≤ length file.now) × (q ≤ length file.now) }
     ensures { result ≤ length out.new }
 {
-    let i = put(&file[..p], out, 0);
-    let j = put(new, out, i);
-    put(&file[q..], out, j)
+    let mut at = put(&file[..p], out);
+    at += put(new, &mut out[at..]);
+    at + put(&file[q..], &mut out[at..])
 }
 
 // Writes the file with the OLD of a pair replaced.
@@ -106,7 +94,7 @@ fn edit(rt: &impl Print, file: &[u8], pair: &[u8], out: &mut [u8]) -> io::Result
     let a = reading::place_of(b'|', pair);
     let b = behind(pair, a);
     let p = find_text(rt, file, &pair[..a])?;
-    let q = p + lists::least(a, file.len() - p);
+    let q = p + a.min(file.len() - p);
     Ok(splice(file, p, q, &pair[b..], out))
 }
 
@@ -124,7 +112,7 @@ fn edit_twice(rt: &impl Print, file: &[u8], line: &[u8], out: &mut [u8]) -> io::
 }
 
 fn say_case(rt: &impl Print, line: &[u8]) -> io::Result<()> {
-    let n = lists::least(line.len(), 100);
+    let n = line.len().min(100);
     say(rt, &line[..n])?;
     if n < line.len() {
         say(rt, b"..")?;
@@ -137,26 +125,26 @@ fn say_place(rt: &impl Print, file: &[u8], p: usize) -> io::Result<()> {
     if file.len() <= p {
         return Ok(());
     }
-    let e = p + lists::least(file.len() - p, 24);
+    let e = p + (file.len() - p).min(24);
     let end = p + reading::place_of(b'\n', &file[p..e]);
     say(rt, b" ")?;
     say(rt, &file[p..end])
 }
 
-fn say_refused(rt: &impl Print, file: &[u8], k: u32, p: usize, how: u8) -> io::Result<()> {
+fn say_refused(rt: &impl Print, file: &[u8], k: u32, p: usize, how: How) -> io::Result<()> {
     say_number(rt, b"refused ", k as usize)?;
     say_number(rt, b" at ", p)?;
-    if (how != SHORT) & (k != 13) {
+    if (how != How::Short) & (k != 13) {
         say_place(rt, file, p)?;
     }
     Ok(())
 }
 
-fn say_word(rt: &impl Print, i: usize, new: u32, old: u32, how: u8) -> io::Result<()> {
-    if how == ALL {
+fn say_word(rt: &impl Print, i: usize, new: u32, old: u32, how: How) -> io::Result<()> {
+    if how == How::All {
         return say_number(rt, b" ", new as usize);
     }
-    if (how == CHANGES) & (new != old) {
+    if (how == How::Changes) & (new != old) {
         say_number(rt, b" [", i)?;
         say_number(rt, b"]=", new as usize)?;
     }
@@ -164,28 +152,19 @@ fn say_word(rt: &impl Print, i: usize, new: u32, old: u32, how: u8) -> io::Resul
 }
 
 // Nothing of a plan of another length than the base's.
-fn say_words(rt: &impl Print, new: &[u32], old: &[u32], how: u8) -> io::Result<()> {
+fn say_words(rt: &impl Print, new: &[u32], old: &[u32], how: How) -> io::Result<()> {
     if new.len() != old.len() {
         return Ok(());
     }
-    let mut i = 0;
-    while i < new.len() {
-        say_word(rt, i, new[i], old[i], how)?;
-        i += 1;
+    for (i, (new, old)) in new.iter().zip(old).enumerate() {
+        say_word(rt, i, *new, *old, how)?;
     }
     Ok(())
 }
 
 // Was a word written that had to be left alone?
 fn spoilt(words: &[u32]) -> bool {
-    let mut i = 0;
-    while i < words.len() {
-        if words[i] != UNTOUCHED {
-            return true;
-        }
-        i += 1;
-    }
-    false
+    words.iter().any(|w| *w != UNTOUCHED)
 }
 
 // Ends a line; `rest` are the words behind those answered.
@@ -197,29 +176,25 @@ fn say_end(rt: &impl Print, rest: &[u32]) -> io::Result<()> {
 }
 
 // The answer of n words, and the buffer that it came in.
-fn say_plan(rt: &impl Print, n: usize, plan: &[u32], words: &[u32], how: u8) -> io::Result<()> {
-    let m = lists::least(n, plan.len());
+fn say_plan(rt: &impl Print, n: usize, plan: &[u32], words: &[u32], how: How) -> io::Result<()> {
+    let m = n.min(plan.len());
     say_number(rt, b"", n)?;
     say(rt, b" words")?;
     say_words(rt, &plan[..m], words, how)?;
     say_end(rt, &plan[m..])
 }
 
-fn convert_anew(file: &[u8], plan: &mut [u32]) -> Converted {
-    let mut i = 0;
-    while i < plan.len() {
-        plan[i] = UNTOUCHED;
-        i += 1;
-    }
+fn convert_anew(file: &[u8], plan: &mut [u32]) -> Result<usize, Refusal> {
+    plan.fill(UNTOUCHED);
     converter::convert(file, plan)
 }
 
 // One file; `words` are the base's.
-fn show(rt: &impl Print, file: &[u8], words: &[u32], plan: &mut [u32], how: u8) -> io::Result<()> {
+fn show(rt: &impl Print, file: &[u8], words: &[u32], plan: &mut [u32], how: How) -> io::Result<()> {
     match convert_anew(file, plan) {
-        Converted::Words(n) => say_plan(rt, n, plan, words, how),
-        Converted::Refused(k, p) => {
-            say_refused(rt, file, k, p, how)?;
+        Ok(n) => say_plan(rt, n, plan, words, how),
+        Err(refusal) => {
+            say_refused(rt, file, refusal.number, refusal.place, how)?;
             say_end(rt, plan)
         }
     }
@@ -237,8 +212,8 @@ fn say_run(rt: &impl Print, from: usize, to: usize) -> io::Result<()> {
 
 fn ends_early(file: &[u8], plan: &mut [u32]) -> bool {
     match convert_anew(file, plan) {
-        Converted::Words(_) => false,
-        Converted::Refused(k, p) => (k == 2) & (p == file.len()) & !spoilt(plan),
+        Ok(_) => false,
+        Err(refusal) => (refusal.number == 2) & (refusal.place == file.len()) & !spoilt(plan),
     }
 }
 
@@ -257,92 +232,67 @@ fn prefix(
     say_run(rt, from, n)?;
     say_number(rt, b"prefix ", n)?;
     say(rt, b": ")?;
-    show(rt, file, words, plan, SHORT)?;
+    show(rt, file, words, plan, How::Short)?;
     Ok(n + 1)
 }
 
-fn prefixes(rt: &impl Print, file: &[u8], words: &[u32], plan: &mut [u32]) -> io::Result<()> {
+fn prefixes(rt: &impl Print, base: Base<'_>, plan: &mut [u32]) -> io::Result<()> {
     let mut from = 0;
-    let mut n = 0;
-    while n <= file.len() {
-        from = prefix(rt, &file[..n], words, plan, from)?;
-        n += 1;
+    for n in 0..=base.file.len() {
+        from = prefix(rt, &base.file[..n], base.words, plan, from)?;
     }
-    say_run(rt, from, n)
+    say_run(rt, from, base.file.len() + 1)
 }
 
-fn show_edit(
-    rt: &impl Print,
-    line: &[u8],
-    base: &[u8],
-    words: &[u32],
-    plan: &mut [u32],
-) -> io::Result<()> {
+fn show_edit(rt: &impl Print, line: &[u8], base: Base<'_>, plan: &mut [u32]) -> io::Result<()> {
     let mut file = [0; LARGEST];
-    let n = edit_twice(rt, base, line, &mut file)?;
-    show(rt, &file[..n], words, plan, CHANGES)
+    let n = edit_twice(rt, base.file, line, &mut file)?;
+    show(rt, &file[..n], base.words, plan, How::Changes)
 }
 
-fn show_case(
-    rt: &impl Print,
-    line: &[u8],
-    base: &[u8],
-    words: &[u32],
-    plan: &mut [u32],
-) -> io::Result<()>
+fn show_case(rt: &impl Print, line: &[u8], base: Base<'_>, plan: &mut [u32]) -> io::Result<()>
     requires { 1 ≤ length line.now }
 {
     say_case(rt, line)?;
     let mark = line[0];
     if mark == b'?' {
-        show(rt, base, words, plan, ALL)
+        show(rt, base.file, base.words, plan, How::All)
     } else if mark == b'=' {
-        show(rt, &line[1..], words, plan, CHANGES)
+        show(rt, &line[1..], base.words, plan, How::Changes)
     } else {
-        show_edit(rt, line, base, words, plan)
+        show_edit(rt, line, base, plan)
     }
 }
 
 // One line. Answers the room from here on.
-fn case(
-    rt: &impl Print,
-    line: &[u8],
-    base: &[u8],
-    words: &[u32],
-    plan: &mut [u32],
-) -> io::Result<usize> {
+fn case(rt: &impl Print, line: &[u8], base: Base<'_>, plan: &mut [u32]) -> io::Result<usize> {
     let room = plan.len();
     if line.len() == 0 {
         return Ok(room);
     }
     let mark = line[0];
     if mark == b'@' {
-        return Ok(number(&line[1..]));
+        return Ok(reading::number(&line[1..], ROOM as u32));
     }
     if mark == b'#' {
         say(rt, line)?;
         say(rt, b"\n")?;
     } else if mark == b'!' {
-        prefixes(rt, base, words, plan)?;
+        prefixes(rt, base, plan)?;
     } else {
-        show_case(rt, line, base, words, plan)?;
+        show_case(rt, line, base, plan)?;
     }
     Ok(room)
 }
 
-fn cases(
-    rt: &impl Print,
-    lines: &[u8],
-    base: &[u8],
-    words: &[u32],
-    plan: &mut [u32],
-) -> io::Result<()> {
+fn cases(rt: &impl Print, lines: &[u8], base: Base<'_>, plan: &mut [u32]) -> io::Result<()> {
     let mut room = plan.len();
     let mut i = 0;
+    // No `for` over `split`: the check refuses that loop's own module beside the lent buffers (tried in engine_cases).
     while i < lines.len() {
         let e = i + reading::place_of(b'\n', &lines[i..]);
-        let r = lists::least(room, plan.len());
-        room = case(rt, &lines[i..e], base, words, &mut plan[..r])?;
+        let r = room.min(plan.len());
+        room = case(rt, &lines[i..e], base, &mut plan[..r])?;
         i = behind(lines, e);
     }
     Ok(())
@@ -353,8 +303,8 @@ fn count_words(file: &[u8], plan: &mut [u32]) -> usize
     ensures { result ≤ length plan.old }
 {
     match convert_anew(file, plan) {
-        Converted::Words(n) => lists::least(n, plan.len()),
-        Converted::Refused(_, _) => 0,
+        Ok(n) => n.min(plan.len()),
+        Err(_) => 0,
     }
 }
 
@@ -366,7 +316,11 @@ fn run(rt: &impl Print, input: &[u8], own: &mut [u32], plan: &mut [u32]) -> io::
     let b = p + 1;
     let c = p + 4;
     let n = count_words(&input[..b], own);
-    cases(rt, &input[c..], &input[..b], &own[..n], plan)
+    let base = Base {
+        file: &input[..b],
+        words: &own[..n],
+    };
+    cases(rt, &input[c..], base, plan)
 }
 
 fn main(rt: HostRuntime) -> io::Result<()> {

@@ -2,39 +2,34 @@
 use Prim.Native.Nat.{ℕ, ◌≤◌, ◌<◌}
 use native.Mathlib.Omega.{arith}
 use mathlib.Core.Path.{◌≡◌, refl, sym, ap, subst, ◌∙◌}
-use mathlib.Core.Option.{some, none-ne-some}
 use mathlib.Core.List.{List, [], ◌∷◌, ◌++◌, map, append_assoc}
 use lib.ListN.{length, take, drop, length-take}
 use lib.Seq.{take_at}
-use Rattle.shape.specs.declared.Shape.{Shape}
-use Rattle.shape.specs.declared.Shape.TheVariants.{Whole, TooLong, Broken}
-use Rattle.shape.specs.Shape.{Node, WellShaped, shape_refusal}
+use Rattle.shape.specs.Shape.{Node, WellShaped}
 use Rattle.grammar.proofs.Names.{few_names}
 use Rattle.grammar.proofs.Ruled.{becomes}
 use Rattle.records.specs.Records.{PlanStatement}
 use Rattle.file_rules.specs.Element.{Known, Fault}
 use Rattle.file_rules.specs.Document.{known_elements, element_faults}
+use Rattle.std.specs.Prelude.{Some, None, Result, Ok, Err}
 use Rattle.file_rules.specs.declared.Refusal.{Refusal}
+use Rattle.file_rules.specs.RefusalCode.{refused_at}
 use Rattle.file_rules.specs.Reading.{is}
 use Rattle.file_rules.specs.Tables.{kept, expression_of, names_of, table_faults}
-use Rattle.document.specs.declared.Found.{Found}
 use Rattle.document.specs.EntriesCode as entries
 use Rattle.document.specs.EntriesCode.{Entry, entry_of, entry_most, entry_room, entries_in}
-use Rattle.document.specs.DocumentCode.{Index, index_of, Indexes, IndexedIn}
+use Rattle.document.specs.DocumentCode.{Index, index_of, Indexes, Kept, Holds, IndexedIn}
 use Rattle.document.proofs.Entries.{entries_back}
 use Rattle.document.proofs.Few.{few}
 use Rattle.lists.specs.Lists.{gathered}
-use Rattle.lists.proofs.Cases.{same_pair}
-use Rattle.tables.specs.declared.Telling.{Telling}
-use Rattle.tables.specs.TablesCode.{names_at, tabled}
+use Rattle.tables.specs.declared.rows.Told.{Told}
+use Rattle.tables.specs.TablesCode.{names_at, told_unless, tabled}
 use Rattle.tables.proofs.Entries.{faultless_parts}
 use Rattle.tables.proofs.Laws.{reads_well}
 use Rattle.tables.proofs.Wanted.{first_of, Reads}
-use Rattle.converter.specs.declared.Written.{Written}
-use Rattle.converter.specs.declared.Converted.TheVariants as answer
+use Rattle.tables.specs.RowsCode.{told}
 use Rattle.converter.specs.Converter.{Composes, Judged, Meets, Refuses, Converts}
-use Rattle.converter.specs.PlanCode.{written, Wrote, WroteOr, late_fault, sheet_words}
-use Rattle.converter.proofs.Numbers.{element_number, table_number, late_number}
+use Rattle.converter.specs.PlanCode.{written, Wrote, WroteOr, late_fault, sheet_words, Plain}
 use Rattle.converter.proofs.Lines.{statement_of, faults_of, compile_composes}
 use Rattle.converter.proofs.Sheet as sheet
 
@@ -57,162 +52,180 @@ refuse_early s room x short w a l e =
       in_order = ap (λ (fs : List Fault). fs ++ r.0) (sym e) ∙ append_assoc (element_faults x) (table_faults (known_elements x)) r.0;
     })
 
-shape_number : (a : Shape) (n p : ℕ) → shape_refusal a ≡ some (n, p) → 1 ≤ n
-shape_number Whole n p e = absurd (none-ne-some (n, p) e)
-shape_number TooLong n p e = omega (arith, (same_pair _ refl e).0)
-shape_number (Broken q) n p e = omega (arith, (same_pair _ refl e).0)
-
 pub copy_room : (n : ℕ) (e d : List ℕ) → n ≤ length d → length (take n e) ≤ length d
 copy_room n e d h = omega (arith, h, length-take n e)
 
 abbrev RefusedBy : List ℕ → List ℕ → Refusal → Type 0
-RefusedBy f d r = Converts f d (answer.Refused r.number r.place) d
-
--- a document without faults up to 8, and its entries
-pub record Plain (f : List ℕ) (es : List Entry) : Type 0 where
-  pub root : Node
-  pub short : length f ≤ 32768
-  pub shaped : WellShaped f root
-  pub faultless : element_faults root ≡ []
-  pub entries : es ≡ map entry_of (known_elements root)
+RefusedBy f d r = Converts f d (Err r) d
 
 -- ---- by the index
 module _ (f : List ℕ) where
-  refused_at_lem : (d : List ℕ) (x : Index) → Indexes f x → (x.fault.number ≡ 0 → ⊥) → RefusedBy f d x.fault
+  refused_at_lem : (d : List ℕ) (x : Index) → Indexes f x → (q : Refusal) → x ≡ Err q → RefusedBy f d q
   unfolding index_of
-  refused_at_lem d x (Indexes.shapeless a n p s e) h = Converts.refuses n p (Refuses.by_shape a s e)
-  refused_at_lem d x (Indexes.faulty y a l short w e) h =
-      Converts.refuses a.number a.place
+  refused_at_lem d x (Indexes.shapeless a n p s e) q o =
+      let z : refused_at n p ≡ q = cc in
+      subst (RefusedBy f d) z (Converts.refuses (refused_at n p) (Refuses.by_shape a s e))
+  refused_at_lem d x (Indexes.faulty y a l short w e) q o =
+      let z : refused_at a.number a.place ≡ q = cc in
+      subst (RefusedBy f d) z
+      (Converts.refuses (refused_at a.number a.place)
       (refuse_early f (length d) y short w a (l ++ table_faults (known_elements y))
-      (ap (λ (fs : List Fault). fs ++ table_faults (known_elements y)) e))
-  refused_at_lem d x (Indexes.faultless y short w e) h = absurd (h refl)
+      (ap (λ (fs : List Fault). fs ++ table_faults (known_elements y)) e)))
+  refused_at_lem d x (Indexes.faultless y short w e) q o = cc
 
-  plain_at : (x : Index) → Indexes f x → x.fault.number ≡ 0 → Plain f x.entries
+  plain_at : (x : Index) → Indexes f x → (es : List Entry) → x ≡ Ok es → Plain f es
   unfolding index_of
-  plain_at x (Indexes.shapeless a n p s e) h = absurd (omega (arith, shape_number a n p e, h))
-  plain_at x (Indexes.faulty y a l short w e) h = absurd (omega (arith, element_number y a l e, h))
-  plain_at x (Indexes.faultless y short w e) h = record { root = y; short = short; shaped = w; faultless = e; entries = refl }
+  plain_at x (Indexes.shapeless a n p s e) es o = cc
+  plain_at x (Indexes.faulty y a l short w e) es o = cc
+  plain_at x (Indexes.faultless y short w e) es o =
+      let z : es ≡ map entry_of (known_elements y) = cc in
+      record { root = y; short = short; shaped = w; faultless = e; entries = z }
 
-  module _ (r : Found) (ws : List ℕ) (x : IndexedIn f r ws) where
-    pub end_count : length (take r.end ws) ≡ r.end
-    end_count = ap length x.holds.words ∙ sym x.holds.long
+  -- what was read: refused, or the entries up to an end
+  module _ (r : Result ℕ Refusal) (ws : List ℕ) (x : IndexedIn f r ws) where
+    pub index_refused : (d : List ℕ) (q : Refusal) → r ≡ Err q → RefusedBy f d q
+    index_refused d q o = by_index x.index x.indexes (subst (λ (a : Result ℕ Refusal). Holds a ws x.index) o x.holds)
+      where
+        by_index : (i : Index) → Indexes f i → Holds (Err q) ws i → RefusedBy f d q
+        by_index (Ok es) y h = absurd h
+        by_index (Err p) y h = refused_at_lem d (Err p) y q (ap Err (sym h))
 
-    pub end_within : r.end ≤ length ws
-    end_within = omega (arith, end_count, length-take r.end ws)
+    module _ (end : ℕ) (o : r ≡ Ok end) where
+      read : (es : List Entry) × Plain f es × Kept end ws es
+      read = by_index x.index x.indexes (subst (λ (a : Result ℕ Refusal). Holds a ws x.index) o x.holds)
+        where
+          by_index : (i : Index) → Indexes f i → Holds (Ok end) ws i → (es : List Entry) × Plain f es × Kept end ws es
+          by_index (Ok es) y h = (es, plain_at (Ok es) y es refl, h)
+          by_index (Err p) y h = absurd h
 
-    pub index_refused : (d : List ℕ) → (r.fault.number ≡ 0 → ⊥) → RefusedBy f d r.fault
-    index_refused d h =
-        let q = x.holds.fault in
-        subst (RefusedBy f d) (sym q) (refused_at_lem d x.index x.indexes (λ z. h (ap (λ (y : Refusal). y.number) q ∙ z)))
+      pub end_count : length (take end ws) ≡ end
+      end_count = ap length read.2.words ∙ sym read.2.long
 
-    pub plain : r.fault.number ≡ 0 → Plain f (entries_in (take r.end ws))
-    plain h =
-        let q : entries_in (take r.end ws) ≡ x.index.entries = ap entries_in x.holds.words
-        ∙ entries_back x.index.entries x.holds.formed in
-        subst (Plain f) (sym q)
-        (plain_at x.index x.indexes (sym (ap (λ (y : Refusal). y.number) x.holds.fault) ∙ h))
+      pub end_within : end ≤ length ws
+      end_within = omega (arith, end_count, length-take end ws)
 
-    pub few_entries : r.fault.number ≡ 0 → length (take r.end ws) ≤ entry_room
-    few_entries h =
-        let q = plain_at x.index x.indexes (sym (ap (λ (y : Refusal). y.number) x.holds.fault) ∙ h) in
-        let m : length (entries.written x.index.entries) ≤ entry_most =
-        rw q.entries (few q.root (faultless_parts q.root q.faultless).0) in
-        omega (arith, ap length x.holds.words, m)
+      pub plain : Plain f (entries_in (take end ws))
+      plain =
+          let q : entries_in (take end ws) ≡ read.0 = ap entries_in read.2.words ∙ entries_back read.0 read.2.formed in
+          subst (Plain f) (sym q) read.1
+
+      pub few_entries : length (take end ws) ≤ entry_room
+      few_entries =
+          let q = read.1 in
+          let m : length (entries.written read.0) ≤ entry_most = rw q.entries (few q.root (faultless_parts q.root q.faultless).0) in
+          omega (arith, ap length read.2.words, m)
 
 -- ---- by the tables
-module _ (f d : List ℕ) (es : List Entry) (p : Plain f es) (t : Telling) (q : t ≡ tabled f es) where
+-- what is answered, if it is r
+abbrev refusal_in : Refusal → Result Told Refusal → Refusal
+refusal_in a r = elim r [ Ok t ↦ a | Err b ↦ b ]
+
+abbrev told_in : Told → Result Told Refusal → Told
+told_in t r = elim r [ Ok u ↦ u | Err b ↦ t ]
+
+abbrev is_ok : Result Told Refusal → Type 0
+is_ok r = elim r [ Ok t ↦ Unit {0} | Err a ↦ ⊥ ]
+
+module _ (f d : List ℕ) (es : List Entry) (p : Plain f es) where
   abbrev x : Node
   x = p.root
 
   abbrev ks : List Known
   ks = known_elements x
 
-  reads : Reads f ks t
-  reads = subst (Reads f ks) (sym (q ∙ ap (tabled f) p.entries)) (reads_well f x p.shaped p.faultless)
+  reads_all : Reads f ks (told f es) (tabled f es)
+  reads_all = subst (λ (l : List Entry). Reads f ks (told f l) (tabled f l)) (sym p.entries) (reads_well f x p.shaped p.faultless)
 
-  refused_by : (ts : List Fault) → table_faults ks ≡ ts → ((first_of ts).number ≡ 0 → ⊥) → RefusedBy f d (first_of ts)
-  refused_by [] e h = absurd (h refl)
-  refused_by (a ∷ l) e h =
-      Converts.refuses a.number a.place (refuse_early f (length d) x p.short p.shaped a l (rw (p.faultless, e)))
+  refused_by : (a : Refusal) (ts : List Fault) → table_faults ks ≡ ts → Err a ≡ told_unless (first_of ts) (told f es) → RefusedBy f d a
+  refused_by a [] e q = absurd (subst is_ok (sym q) tt)
+  refused_by a (b ∷ l) e q =
+      subst (RefusedBy f d) (sym (ap (refusal_in a) q))
+      (Converts.refuses (refused_at b.number b.place) (refuse_early f (length d) x p.short p.shaped b l (rw (p.faultless, e))))
 
-  pub tables_refused : (t.fault.number ≡ 0 → ⊥) → RefusedBy f d t.fault
-  tables_refused h =
-      let e = reads.fault in
-      subst (RefusedBy f d) (sym e) (refused_by (table_faults ks) refl (λ z. h (ap (λ (y : Refusal). y.number) e ∙ z)))
+  pub tables_refused : (a : Refusal) → Err a ≡ tabled f es → RefusedBy f d a
+  tables_refused a q = refused_by a (table_faults ks) refl (q ∙ reads_all.answer)
 
-  clear_by : (ts : List Fault) → table_faults ks ≡ ts → (first_of ts).number ≡ 0 → table_faults ks ≡ []
-  clear_by [] e h = e
-  clear_by (a ∷ l) e h = absurd (omega (arith, table_number ks a l e, h))
+  clear_by : (t : Told) (ts : List Fault) → Ok t ≡ told_unless (first_of ts) (told f es) → (t ≡ told f es) × (ts ≡ [])
+  clear_by t [] q = (ap (told_in t) q, refl)
+  clear_by t (b ∷ l) q = absurd (subst is_ok q tt)
 
-  pub sheet_room : length (sheet_words f t.told es) ≤ 1590
-  sheet_room = rw p.entries (sheet.sheet_fits f x p.short p.shaped p.faultless t reads)
+  module _ (t : Told) (q : Ok t ≡ tabled f es) where
+    clear : (t ≡ told f es) × (table_faults ks ≡ [])
+    clear = clear_by t (table_faults ks) (q ∙ reads_all.answer)
 
-  -- ---- by the expressions
-  module _ (h : t.fault.number ≡ 0) (b : List ℕ) (r : Written) (e : List ℕ)
-      (c : WroteOr (late_fault f (names_at f t.told.names) es) (sheet_words f t.told es) b r e) where
-    abbrev codes : List (List ℕ)
-    codes = names_of ks
+    reads : Reads f ks t (tabled f es)
+    reads = subst (λ (u : Told). Reads f ks u (tabled f es)) (sym clear.0) reads_all
 
-    abbrev lines : List Known
-    lines = kept (is "STATEMENT") ks
+    pub sheet_room : length (sheet_words f t es) ≤ 1590
+    sheet_room = rw p.entries (sheet.sheet_fits f x p.short p.shaped p.faultless t _ reads)
 
-    abbrev late : List Fault
-    late = gathered (faults_of codes) lines
+    -- ---- by the expressions
+    module _ (b : List ℕ) (r : Result ℕ Refusal) (e : List ℕ)
+        (c : WroteOr (late_fault f (names_at f t.names) es) (sheet_words f t es) b r e) where
+      abbrev codes : List (List ℕ)
+      codes = names_of ks
 
-    abbrev ss : List PlanStatement
-    ss = map (statement_of codes) lines
+      abbrev lines : List Known
+      lines = kept (is "STATEMENT") ks
 
-    tables_clear : table_faults ks ≡ []
-    tables_clear = clear_by (table_faults ks) refl (sym (ap (λ (y : Refusal). y.number) reads.fault) ∙ h)
+      abbrev late : List Fault
+      late = gathered (faults_of codes) lines
 
-    -- all faults are those of the expressions
-    judged : (cs : List Fault) → late ≡ cs → Judged x cs ss
-    judged cs g =
-        let few : length codes ≤ 32 = subst (λ (l : List (List ℕ)). length l ≤ 32) reads.names (few_names f _ _) in
-        record { late = late; composed = compile_composes codes few lines; in_order = rw (p.faultless, tables_clear) (sym g) }
+      abbrev ss : List PlanStatement
+      ss = map (statement_of codes) lines
 
-    late_first : r.fault ≡ first_of late
-    late_first =
-        c.same ∙ ap (late_fault f (names_at f t.told.names)) p.entries
-        ∙ sheet.late_are f x p.short p.shaped p.faultless t reads
+      tables_clear : table_faults ks ≡ []
+      tables_clear = clear.1
 
-    late_by : (cs : List Fault) → late ≡ cs → ((first_of cs).number ≡ 0 → ⊥) → RefusedBy f d (first_of cs)
-    late_by [] g z = absurd (z refl)
-    late_by (a ∷ l) g z = Converts.refuses a.number a.place (Refuses.by_fault x l ss p.short p.shaped (judged (a ∷ l) g))
+      -- all faults are those of the expressions
+      judged : (cs : List Fault) → late ≡ cs → Judged x cs ss
+      judged cs g =
+          let few : length codes ≤ 32 = subst (λ (l : List (List ℕ)). length l ≤ 32) reads.names (few_names f _ _) in
+          record { late = late; composed = compile_composes codes few lines; in_order = rw (p.faultless, tables_clear) (sym g) }
 
-    pub late_refused : (r.fault.number ≡ 0 → ⊥) → RefusedBy f d r.fault
-    late_refused z =
-        subst (RefusedBy f d) (sym late_first) (late_by late refl (λ y. z (ap (λ (u : Refusal). u.number) late_first ∙ y)))
+      late_first : late_fault f (names_at f t.names) es ≡ first_of late
+      late_first =
+          ap (late_fault f (names_at f t.names)) p.entries ∙ sheet.late_are f x p.short p.shaped p.faultless t _ reads
 
-    late_positive : (cs : List Fault) → late ≡ cs → (first_of cs).number ≡ 0 → late ≡ []
-    late_positive [] g z = g
-    late_positive (a ∷ l) g z = absurd (omega (arith, late_number codes lines a l g, z))
+      late_by : (q : Refusal) (cs : List Fault) → late ≡ cs → first_of cs ≡ Some q → RefusedBy f d q
+      late_by q [] g z = cc
+      late_by q (a ∷ l) g z =
+          let o : refused_at a.number a.place ≡ q = cc in
+          subst (RefusedBy f d) o
+          (Converts.refuses (refused_at a.number a.place) (Refuses.by_fault x l ss p.short p.shaped (judged (a ∷ l) g)))
 
-    module _ (z : r.fault.number ≡ 0) where
-      abbrev words : List ℕ
-      words = sheet_words f t.told es
+      pub late_refused : (q : Refusal) → r ≡ Err q → RefusedBy f d q
+      late_refused q z = late_by q late refl (sym late_first ∙ c.refused q z)
 
-      wrote : Wrote words b r.count e
-      wrote = c.wrote (sym (ap (λ (u : Refusal). u.number) c.same) ∙ z)
+      late_clear : (cs : List Fault) → late ≡ cs → first_of cs ≡ None → late ≡ []
+      late_clear [] g z = g
+      late_clear (a ∷ l) g z = cc
 
-      meets : Meets f words
-      meets = record {
-        document = x;
-        statements = ss;
-        short = p.short;
-        spells = p.shaped;
-        faultless = judged [] (late_positive late refl (sym (ap (λ (u : Refusal). u.number) late_first) ∙ z));
-        words = ap (sheet_words f t.told) p.entries ∙ sheet.sheet_is f x p.short p.shaped p.faultless t reads;
-      }
+      module _ (n : ℕ) (z : r ≡ Ok n) where
+        abbrev words : List ℕ
+        words = sheet_words f t es
 
-      pub late_short : length d < r.count → Converts f d (answer.Refused 13 r.count) d
-      late_short k = Converts.refuses 13 r.count (Refuses.by_room words meets (rw (← wrote.count) k) refl wrote.count)
+        wrote : Wrote words b n e
+        wrote = (c.wrote n z).1
 
-      -- the copy of the first words of the buffer
-      pub late_written : (m : ℕ) (u : List ℕ) → Wrote (take r.count e) d m u → r.count ≤ length d → Converts f d (answer.Words m) u
-      late_written m u g k =
-          let a : take r.count e ≡ words =
-          ap (take r.count) wrote.words ∙ take_at words (drop (length words) b) r.count (sym wrote.count) in
-          let i : m ≡ length words = g.count ∙ ap length a in
-          let v : u ≡ written words d = g.words ∙ ap (λ (l : List ℕ). written l d) a in
-          rw (i, v) (Converts.converts words meets (rw (← wrote.count) k))
+        meets : Meets f words
+        meets = record {
+          document = x;
+          statements = ss;
+          short = p.short;
+          spells = p.shaped;
+          faultless = judged [] (late_clear late refl (sym late_first ∙ (c.wrote n z).0));
+          words = ap (sheet_words f t) p.entries ∙ sheet.sheet_is f x p.short p.shaped p.faultless t _ reads;
+        }
+
+        pub late_short : length d < n → Converts f d (Err (refused_at 13 n)) d
+        late_short k = Converts.refuses (refused_at 13 n) (Refuses.by_room words meets (rw (← wrote.count) k) refl wrote.count)
+
+        -- the copy of the first words of the buffer
+        pub late_written : (m : ℕ) (u : List ℕ) → Wrote (take n e) d m u → n ≤ length d → Converts f d (Ok m) u
+        late_written m u g k =
+            let a : take n e ≡ words =
+            ap (take n) wrote.words ∙ take_at words (drop (length words) b) n (sym wrote.count) in
+            let i : m ≡ length words = g.count ∙ ap length a in
+            let v : u ≡ written words d = g.words ∙ ap (λ (l : List ℕ). written l d) a in
+            rw (i, v) (Converts.converts words meets (rw (← wrote.count) k))

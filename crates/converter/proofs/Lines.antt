@@ -11,10 +11,11 @@ use Rattle.lists.proofs.Gathers.{gathered_map}
 use Rattle.text.specs.Texts.{bytes, same}
 use Rattle.records.specs.Records.{PlanStatement, trigger_words, filter_words, action_word, statement_words, sum_from}
 use Rattle.records.specs.declared.Action.{Action}
-use Rattle.grammar.specs.declared.Verdict.TheVariants.{Good, Broken, Unknown}
-use Rattle.grammar.specs.declared.Verdict.{Verdict}
-use Rattle.grammar.specs.declared.Compiled.{Compiled}
-use Rattle.grammar.specs.GrammarCode.{verdict_refusal, compiled}
+use Rattle.std.specs.Prelude.{Result, Ok, Err}
+use Rattle.grammar.specs.declared.Unfit.{Unfit}
+use Rattle.grammar.specs.declared.Unfit.TheVariants.{Broken, Unknown}
+use Rattle.grammar.specs.declared.Words.{Words}
+use Rattle.grammar.specs.GrammarCode.{verdict_refusal, code_in, compiled}
 use Rattle.grammar.proofs.Ruled.{compiled_becomes}
 use Rattle.schema.specs.Schema.{parents, parent_in, one_of, under}
 use Rattle.schema.specs.SchemaCode.{attributes, kind_name}
@@ -28,13 +29,16 @@ use Rattle.document.specs.EntriesCode.{Entry, entry_of, number_in}
 use Rattle.document.proofs.Stood.{All}
 use Rattle.tables.specs.RowsCode as rows
 use Rattle.tables.specs.RowsCode.{front, counted, is_channel, mask_of, is_inner}
-use Rattle.tables.specs.TablesCode.{or_else}
 use Rattle.tables.proofs.Readings.{statement_ruled, number_is, trigger_is, filter_is}
-use Rattle.tables.proofs.Wanted.{Fit, Formed, first_of}
+use Rattle.tables.proofs.Wanted.{Fit, Formed}
+use Rattle.file_rules.specs.RefusalCode.{refused_at}
+use Rattle.file_rules.specs.declared.Refusal.{Refusal}
 use Rattle.tables.proofs.Nested.{Nested, Named, each_name, each_pair, all_kept, all_mapped}
 use Rattle.tables.proofs.Fronts.{mask_is, text_is}
 use Rattle.converter.specs.Converter.{fault_of, Composes}
-use Rattle.converter.specs.PlanCode.{rows_of, trigger_row, filter_row, compiled_at, code_in, action_row, code_from, line_words, line_row, verdict_fault, line_fault, late_fault}
+use Rattle.std.specs.Option.{option_or}
+use Rattle.tables.proofs.Wanted.{first_of}
+use Rattle.converter.specs.PlanCode.{rows_of, trigger_row, filter_row, compiled_at, action_row, code_from, line_words, line_row, verdict_fault, line_fault, late_fault}
 use Rattle.converter.proofs.Blocks.{rows_are}
 
 -- ---- how many there are
@@ -144,33 +148,33 @@ actions_are (c ∷ ms) n =
 
 -- ---- what `compile` gives each statement
 module _ (names : List (List ℕ)) where
-  abbrev pub code_of : Known → Compiled
+  abbrev pub code_of : Known → Result Words Unfit
   code_of k = compiled names (expression_of k)
 
   abbrev pub statement_of : Known → PlanStatement
   statement_of k = record { post = value_of k "posttrigger"; actions = actions_of k; code = code_in (code_of k) }
 
   abbrev pub faults_of : Known → List Fault
-  faults_of k = gathered (λ e. fault_of (verdict_refusal (code_of k).verdict) e.place) (expressions_of k)
+  faults_of k = gathered (λ e. fault_of (verdict_refusal (code_of k)) e.place) (expressions_of k)
 
   -- it is what the rules give
   pub compile_composes : length names ≤ 32 → (ks : List Known) → Composes names ks (gathered faults_of ks) (map statement_of ks)
   unfolding gathered
   compile_composes few [] = Composes.over
   compile_composes few (k ∷ ks) =
-      Composes.next k (verdict_refusal (code_of k).verdict) (code_in (code_of k)) ks (gathered faults_of ks) (map statement_of ks)
+      Composes.next k (verdict_refusal (code_of k)) (code_in (code_of k)) ks (gathered faults_of ks) (map statement_of ks)
       (compiled_becomes names (expression_of k) few) (compile_composes few ks)
 
 -- ---- the first fault of expressions
 abbrev fault_row : List ℕ → List (List ℕ) → Entry → List Entry → List Fault
 fault_row f names e es =
-    cond (is_kind e.kind "STATEMENT") (fault_of (verdict_refusal (code_from f names es).verdict) (rows.text_of (front is_inner es))) []
+    cond (is_kind e.kind "STATEMENT") (fault_of (verdict_refusal (code_from f names es)) (rows.text_of (front is_inner es))) []
 
-first_one : (v : Verdict) (p : ℕ) (l : List Fault)
-    → or_else (verdict_fault v p) (first_of l) ≡ first_of (fault_of (verdict_refusal v) p ++ l)
-first_one Good p l = refl
-first_one Broken p l = refl
-first_one Unknown p l = refl
+first_one : (v : Result Words Unfit) (p : ℕ) (l : List Fault)
+    → option_or (verdict_fault v p) (first_of l) ≡ first_of (fault_of (verdict_refusal v) p ++ l)
+first_one (Ok w) p l = refl
+first_one (Err Broken) p l = refl
+first_one (Err Unknown) p l = refl
 
 pub late_first : (f : List ℕ) (names : List (List ℕ)) (es : List Entry) → late_fault f names es ≡ first_of (rows_of (fault_row f names) es)
 unfolding late_fault line_fault rows_of
@@ -178,7 +182,7 @@ late_first f names [] = refl
 late_first f names (e ∷ es) =
     by_cases (is_kind e.kind "STATEMENT")
     (λ t. rw (t, late_first f names es)
-    (first_one (code_from f names es).verdict (rows.text_of (front is_inner es)) (rows_of (fault_row f names) es)))
+    (first_one (code_from f names es) (rows.text_of (front is_inner es)) (rows_of (fault_row f names) es)))
     (λ t. rw (t, late_first f names es) refl)
 
 -- ---- statements, in which an EXPRESSION, ACTIONS and actions stand
@@ -258,10 +262,10 @@ module _ (f : List ℕ) (room : length f ≤ 32768) (names : List (List ℕ)) wh
     unfolding gathered
     fault_one =
         rw (y.fit.named, b)
-        (ap (λ (x : Compiled). fault_of (verdict_refusal x.verdict) (rows.text_of (front is_inner es))) code_is
-        ∙ ap (fault_of (verdict_refusal (code_of names k).verdict)) place_is
-        ∙ sym (ap (gathered (λ e. fault_of (verdict_refusal (code_of names k).verdict) e.place)) only
-        ∙ append-nil (fault_of (verdict_refusal (code_of names k).verdict) e.place)))
+        (ap (λ (x : Result Words Unfit). fault_of (verdict_refusal x) (rows.text_of (front is_inner es))) code_is
+        ∙ ap (fault_of (verdict_refusal (code_of names k))) place_is
+        ∙ sym (ap (gathered (λ e. fault_of (verdict_refusal (code_of names k)) e.place)) only
+        ∙ append-nil (fault_of (verdict_refusal (code_of names k)) e.place)))
 
   line_none : (k : Known) → Line f k → is_line k.name ≡ false → (es : List Entry) → line_row f names (entry_of k) es ≡ []
   unfolding line_row

@@ -5,9 +5,9 @@ use mathlib.Core.Path.{◌≡◌, refl, sym, ap, subst, ◌∙◌}
 use mathlib.Core.Option.{some, none-ne-some}
 use mathlib.Core.List.{List, [], ◌∷◌, ◌++◌, head-eq_of_cons-eq}
 use lib.ListN.{length, drop}
-use Rattle.shape.specs.declared.Shape.{Shape}
-use Rattle.shape.specs.declared.Shape.TheVariants.{Whole, TooLong, Broken}
-use Rattle.shape.specs.Shape.{Node, WellShaped, Shaped, shape_refusal}
+use Rattle.std.specs.Prelude.{Ok, Err}
+use Rattle.shape.specs.declared.Unshaped.TheVariants.{TooLong, Broken}
+use Rattle.shape.specs.Shape.{Shape, Node, WellShaped, Shaped, shape_refusal}
 use Rattle.shape.proofs.OneDoc.{one_doc}
 use Rattle.shape.proofs.OneAnswer.{one_answer}
 use Rattle.records.specs.Records.{PlanStatement}
@@ -17,9 +17,9 @@ use Rattle.file_rules.specs.Element.{Known, Fault, value_of}
 use Rattle.file_rules.specs.Reading.{is}
 use Rattle.file_rules.specs.Document.{known_elements, element_faults}
 use Rattle.file_rules.specs.Tables.{kept, actions_of, expressions_of, names_of, table_faults}
-use Rattle.converter.specs.declared.Converted.{Converted}
-use Rattle.converter.specs.declared.Converted.TheVariants.{Words, Refused}
-use Rattle.converter.specs.Converter.{plan_for, fault_of, Composes, Judged, Meets, Refuses, Converts}
+use Rattle.std.specs.Prelude.{Ok, Err}
+use Rattle.file_rules.specs.RefusalCode.{refused_at}
+use Rattle.converter.specs.Converter.{plan_for, fault_of, Composes, Judged, Meets, Refuses, Converts, Converted}
 use Rattle.lists.specs.Lists.{gathered}
 use Rattle.lists.proofs.Cases.{same_pair}
 
@@ -54,9 +54,9 @@ meets_once s ws vs a b =
 -- a file is not both of good shape and refused for its shape
 shapeless_shaped : (s : List ℕ) (a : Shape) (n p : ℕ) (x : Node) → length s ≤ 32768 → WellShaped s x → Shaped s a
     → shape_refusal a ≡ some (n, p) → ⊥
-shapeless_shaped s Whole n p x short w h e = absurd (none-ne-some (n, p) e)
-shapeless_shaped s TooLong n p x short w h e = absurd (omega (arith, h, short))
-shapeless_shaped s (Broken q) n p x short w h e = h.1.0 x w
+shapeless_shaped s (Ok u) n p x short w h e = absurd (none-ne-some (n, p) e)
+shapeless_shaped s (Err TooLong) n p x short w h e = absurd (omega (arith, h, short))
+shapeless_shaped s (Err (Broken q)) n p x short w h e = h.1.0 x w
 
 -- what meets the rules is refused for want of room only
 pub refused_short : (s ws : List ℕ) (room n p : ℕ) → Meets s ws → Refuses s room n p → room < length ws
@@ -114,13 +114,13 @@ refuses_once s room n p m q (Refuses.by_room ws k r e g) (Refuses.by_room vs o t
     by_room_once s ws room n p m q k r e g (Refuses.by_room vs o t u v)
 
 pub one_converted : (s d : List ℕ) (r r' : Converted) (e e' : List ℕ) → Converts s d r e → Converts s d r' e' → (r ≡ r') × (e ≡ e')
-one_converted s d r r' e e' (Converts.refuses n p a) (Converts.refuses m q b) =
-    let o = refuses_once s (length d) n p m q a b in
-    ((λ i. Refused (o.0 i) (o.1 i)), refl)
-one_converted s d r r' e e' (Converts.refuses n p a) (Converts.converts ws m l) =
-    absurd (omega (arith, l, refused_short s ws (length d) n p m a))
-one_converted s d r r' e e' (Converts.converts ws m l) (Converts.refuses n p a) =
-    absurd (omega (arith, l, refused_short s ws (length d) n p m a))
+one_converted s d r r' e e' (Converts.refuses t a) (Converts.refuses u b) =
+    let o = refuses_once s (length d) t.number t.place u.number u.place a b in
+    ((λ i. Err (refused_at (o.0 i) (o.1 i))), refl)
+one_converted s d r r' e e' (Converts.refuses t a) (Converts.converts ws m l) =
+    absurd (omega (arith, l, refused_short s ws (length d) t.number t.place m a))
+one_converted s d r r' e e' (Converts.converts ws m l) (Converts.refuses t a) =
+    absurd (omega (arith, l, refused_short s ws (length d) t.number t.place m a))
 one_converted s d r r' e e' (Converts.converts ws m l) (Converts.converts vs n k) =
     let z = meets_once s ws vs m n in
-    (ap (λ (l : List ℕ). Words (length l)) z, ap (λ (l : List ℕ). l ++ drop (length l) d) z)
+    (ap (λ (l : List ℕ). Ok (length l)) z, ap (λ (l : List ℕ). l ++ drop (length l) d) z)

@@ -1,52 +1,46 @@
--- The words of entries, by their offsets: those of the entry there, and those behind it.
-use Prim.Native.Nat.{ℕ, ◌+◌, ◌≤◌, ◌<◌}
-use mathlib.Core.Path.{◌≡◌, refl, ap, ◌∙◌}
+-- The words of entries that are left: those of the first, and those behind it.
+use Prim.Native.Nat.{ℕ, ◌+◌, ◌≤◌}
+use mathlib.Core.Path.{◌≡◌, ap, ◌∙◌}
 use mathlib.Core.List.{List, [], ◌∷◌, ◌++◌}
 use mathlib.Core.Bool.{Bool, true, cond}
-use lib.ListN.{length, drop}
+use lib.ListN.{length}
 use Rattle.lists.specs.Lists.{gathered}
-use Rattle.document.specs.EntriesCode.{Entry, entries_in}
-use Rattle.tables.specs.RowsCode.{entry_at, next_at, is_under, is_inner, action_from}
-use Rattle.tables.proofs.RowsTurns.{Next, entries_next, entries_over, front_at, front_next}
+use Rattle.document.specs.EntriesCode.{Entry}
+use Rattle.tables.specs.RowsCode.{front, is_under, is_inner, action_from}
+use Rattle.tables.proofs.RowsTurns.{front_next}
 use Rattle.lists.proofs.Parts.{lent}
 use Rattle.converter.specs.PlanCode.{Wrote, rows_of, action_row}
 use Rattle.converter.proofs.Writes.{back, Behind, behind_all, behind_next, behind_more}
 
-module _ (row : Entry → List Entry → List ℕ) (ws : List ℕ) (at : ℕ) where
-  abbrev pub rows_at : List ℕ
-  rows_at = rows_of row (entries_in (drop at ws))
+-- of es the first is x, and the others, those behind it, are rest
+abbrev pub First : List Entry → Entry → List Entry → List Entry → Type 0
+First es x rest bs = (es ≡ x ∷ rest) × (rest ≡ bs)
 
-  abbrev row_here : List ℕ
-  row_here = row (entry_at ws at) (entries_in (drop (next_at ws at) ws))
-
-  module _ {all d e : List ℕ} {n : ℕ} (b : Behind all d rows_at n e) where
-    module _ (h : at < length ws) where
-      own : {m : ℕ} → Next ws at m → rows_at ≡ row_here ++ rows_of row (entries_in (drop m ws))
-      unfolding rows_of
-      own {m} q =
-          ap (rows_of row) (entries_next ws at m h q)
-          ∙ ap (λ (k : ℕ). row (entry_at ws at) (entries_in (drop k ws)) ++ rows_of row (entries_in (drop m ws))) q
-
-      pub rows_next : length row_here ≤ length (lent e n)
-      rows_next = behind_next b row_here (rows_of row (entries_in (drop (next_at ws at) ws))) (own refl)
-
-      pub rows_more : {m r : ℕ} {p : List ℕ} → Next ws at m → Wrote row_here (lent e n) r p
-          → Behind all d (rows_of row (entries_in (drop m ws))) (n + r) (back e n p)
-      rows_more {m} q w = behind_more b row_here (rows_of row (entries_in (drop m ws))) (own q) w
-
-    pub rows_all : length ws ≤ at → Wrote all d n e
+module _ (row : Entry → List Entry → List ℕ) {es : List Entry} {all d e : List ℕ} {n : ℕ} (b : Behind all d (rows_of row es) n e) where
+  module _ {x : Entry} {rest bs : List Entry} (g : First es x rest bs) where
+    own : rows_of row es ≡ row x bs ++ rows_of row rest
     unfolding rows_of
-    rows_all h = behind_all b (ap (rows_of row) (entries_over ws at h))
+    own = ap (rows_of row) g.0 ∙ ap (λ (l : List Entry). row x l ++ rows_of row rest) g.1
 
--- the actions of a statement, from an offset on
-abbrev pub actions_at : List ℕ → ℕ → List ℕ
-actions_at ws at = gathered action_row (front_at is_inner ws at)
+    pub rows_next : length (row x bs) ≤ length (lent e n)
+    rows_next = behind_next b (row x bs) (rows_of row rest) own
 
-pub actions_next : (ws : List ℕ) (at : ℕ) {kind m : ℕ} (b : Bool) → at < length ws → kind ≡ (entry_at ws at).kind → is_inner kind ≡ true
-    → is_under "ACTIONS" kind ≡ b → Next ws at m → actions_at ws at ≡ cond b (action_from kind ∷ []) [] ++ actions_at ws m
+    pub rows_more : {r : ℕ} {p : List ℕ} → Wrote (row x bs) (lent e n) r p → Behind all d (rows_of row rest) (n + r) (back e n p)
+    rows_more w = behind_more b (row x bs) (rows_of row rest) own w
+
+  pub rows_all : es ≡ [] → Wrote all d n e
+  unfolding rows_of
+  rows_all h = behind_all b (ap (rows_of row) h)
+
+-- the actions of a statement
+abbrev pub actions_in : List Entry → List ℕ
+actions_in es = gathered action_row (front is_inner es)
+
+pub actions_next : {es rest : List Entry} {e : Entry} {kind : ℕ} (b : Bool) → es ≡ e ∷ rest → kind ≡ e.kind → is_inner kind ≡ true
+    → is_under "ACTIONS" kind ≡ b → actions_in es ≡ cond b (action_from kind ∷ []) [] ++ actions_in rest
 unfolding gathered action_row
-actions_next ws at {kind} {m} b h own k t q = rw (front_next is_inner ws at h own m k q, ← own, t)
+actions_next b s own k t = rw (front_next is_inner s own k, ← own, t)
 
-pub actions_none : (ws : List ℕ) (at : ℕ) → front_at is_inner ws at ≡ [] → actions_at ws at ≡ []
+pub actions_none : (es : List Entry) → front is_inner es ≡ [] → actions_in es ≡ []
 unfolding gathered
-actions_none ws at e = ap (gathered action_row) e
+actions_none es e = ap (gathered action_row) e

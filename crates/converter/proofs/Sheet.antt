@@ -5,7 +5,7 @@ use native.Mathlib.Nat.{suc-mul}
 use mathlib.Core.Path.{◌≡◌, refl, sym, ap, ◌∙◌}
 use mathlib.Core.Bool.{Bool, true, or-false}
 use mathlib.Core.List.{List, [], ◌∷◌, ◌++◌, map}
-use lib.ListN.{length, take, length-map, length-append, length-take}
+use lib.ListN.{length, length-map, length-append}
 use Rattle.lists.specs.Lists.{any, gathered}
 use Rattle.lists.proofs.Cases.{by_cases}
 use Rattle.lists.proofs.Gathers.{gathered_map}
@@ -14,6 +14,7 @@ use Rattle.shape.specs.Shape.{Node, WellShaped}
 use Rattle.records.specs.Records.{PlanStatement, trigger_words, filter_words, statement_words, action_word, timeout_word, sum_from}
 use Rattle.loader.specs.Plan.{words_of}
 use Rattle.loader.proofs.RecordLaws.{cause_long}
+use Rattle.grammar.specs.GrammarCode.{code_in}
 use Rattle.grammar.proofs.Ruled as grammar
 use Rattle.schema.specs.Schema.{parents, parent_in}
 use Rattle.schema.specs.SchemaCode as schema
@@ -24,15 +25,18 @@ use Rattle.file_rules.specs.Document.{known_elements, element_faults}
 use Rattle.file_rules.specs.Tables.{kept, is_in, within, channels_of, names_of, expression_of}
 use Rattle.document.specs.EntriesCode.{entry_of}
 use Rattle.document.proofs.Stood.{All}
-use Rattle.tables.specs.declared.Telling.{Telling}
+use Rattle.tables.specs.declared.rows.Told.{Told}
+use Rattle.std.specs.Prelude.{Result}
+use Rattle.file_rules.specs.declared.Refusal.{Refusal}
 use Rattle.tables.specs.RowsCode.{counted}
 use Rattle.tables.specs.TablesCode.{names_at}
-use Rattle.tables.proofs.Wanted.{Fit, Formed, first_of, Reads}
+use Rattle.tables.proofs.Wanted.{Fit, Formed, Reads}
 use Rattle.tables.proofs.Nested.{Nested, Named, all_named_lem, all_within, all_zipped, all_mapped, all_kept}
 use Rattle.tables.proofs.Entries.{all_nested, all_fit}
 use Rattle.tables.proofs.Counts.{few_triggers, few_filters, few_statements, all_formed}
 use Rattle.converter.specs.Converter.{plan_for}
 use Rattle.converter.specs.PlanCode.{late_fault, sheet_words}
+use Rattle.tables.proofs.Wanted.{first_of}
 use Rattle.converter.proofs.Lines.{Line, counted_are, triggers_are, filters_are, code_of, statement_of, faults_of, lines_are, late_is}
 
 kinds_back : (kind_name (kind_of (bytes "TRIGGERS")) ≡ bytes "TRIGGERS")
@@ -62,8 +66,8 @@ all_of : (p : Known → Type 0) → ((k : Known) → p k) → (ks : List Known) 
 all_of p h [] = tt
 all_of p h (k ∷ ks) = (h k, all_of p h ks)
 
-module _ (f : List ℕ) (x : Node) (short : length f ≤ 32768) (w : WellShaped f x) (e : element_faults x ≡ []) (t : Telling)
-    (r : Reads f (known_elements x) t) where
+module _ (f : List ℕ) (x : Node) (short : length f ≤ 32768) (w : WellShaped f x) (e : element_faults x ≡ []) (t : Told)
+    (a : Result Told Refusal) (r : Reads f (known_elements x) t a) where
   abbrev ks : List Known
   ks = known_elements x
 
@@ -92,7 +96,7 @@ module _ (f : List ℕ) (x : Node) (short : length f ≤ 32768) (w : WellShaped 
       (all_zipped (λ k. Fit f k × All (Fit f) (within k)) Formed ks
       (all_zipped (Fit f) (λ k. All (Fit f) (within k)) ks fits (all_within (Fit f) x fits)) (all_formed x e))
 
-  pub late_are : late_fault f (names_at f t.told.names) (map entry_of ks) ≡ first_of (gathered (faults_of names) lines)
+  pub late_are : late_fault f (names_at f t.names) (map entry_of ks) ≡ first_of (gathered (faults_of names) lines)
   late_are = ap (λ ns. late_fault f ns (map entry_of ks)) r.names ∙ late_is f short names ks nested named whole
 
   triggers_count : counted (kind_of (bytes "TRIGGERS")) (map entry_of ks) ≡ length (map trigger_of (kept (is_in "TRIGGERS") ks))
@@ -107,7 +111,7 @@ module _ (f : List ℕ) (x : Node) (short : length f ≤ 32768) (w : WellShaped 
       counted_are _ (bytes "STATEMENTS") ks kinds_back.2 named ∙ ap length (kept_same (is_in "STATEMENTS") (is "STATEMENT") one_line ks)
       ∙ sym (length-map lines (statement_of names))
 
-  pub sheet_is : sheet_words f t.told (map entry_of ks) ≡ words_of (plan_for statements ks)
+  pub sheet_is : sheet_words f t (map entry_of ks) ≡ words_of (plan_for statements ks)
   unfolding sheet_words words_of plan_for
   sheet_is =
       rw (
@@ -125,18 +129,16 @@ module _ (f : List ℕ) (x : Node) (short : length f ≤ 32768) (w : WellShaped 
   -- ---- how long it is
   line_most : (k : Known) → is "STATEMENT" k ≡ true → Formed k → length (statement_words (statement_of names k)) ≤ 73
   line_most k b y =
-      let c = code_of names k in
-      let h = grammar.fits names (expression_of k) {a = c} refl in
+      let c = code_in (code_of names k) in
+      let h = grammar.few_code names (expression_of k) in
       let acts = kept (is_in "ACTIONS") (within k) in
       omega (
         arith,
-        length-append (map action_word (map action_of acts)) (take c.count c.words),
+        length-append (map action_word (map action_of acts)) c,
         length-map (map action_of acts) action_word,
         length-map acts action_of,
         (y b).0,
-        h.0,
-        h.1,
-        length-take c.count c.words,
+        h,
       )
 
   lines_most : length (gathered statement_words statements) ≤ length lines * 73
@@ -146,7 +148,7 @@ module _ (f : List ℕ) (x : Node) (short : length f ≤ 32768) (w : WellShaped 
       (all_mapped (λ k. (is "STATEMENT" k ≡ true) × Formed k) (λ k. length (statement_words (statement_of names k)) ≤ 73)
       (λ k y. line_most k y.0 y.1) lines (all_kept Formed (is "STATEMENT") ks (all_formed x e))))
 
-  pub sheet_fits : length (sheet_words f t.told (map entry_of ks)) ≤ 1590
+  pub sheet_fits : length (sheet_words f t (map entry_of ks)) ≤ 1590
   unfolding words_of plan_for
   sheet_fits =
       let ts = map trigger_of (kept (is_in "TRIGGERS") ks) in

@@ -1,13 +1,13 @@
 -- What a buffer holds once words are written to its front, one record behind the other.
 use Prim.Native.Nat.{ℕ, ◌+◌, ◌-◌, ◌≤◌, ◌<◌}
-use mathlib.Core.Path.{◌≡◌, refl, sym, ap, ◌∙◌}
+use mathlib.Core.Path.{◌≡◌, refl, sym, ap, subst, ◌∙◌}
 use mathlib.Core.List.{List, [], ◌∷◌, ◌++◌, append_assoc, append-nil}
 use native.Mathlib.Omega.{arith}
 use native.Mathlib.Nat.{zero-add}
 use lib.ListN.{length, set, take, drop, length-drop, length-append, drop_of_length-le}
 use lib.Seq.{drop-drop}
 use Rattle.file_rules.specs.declared.Refusal.{Refusal}
-use Rattle.converter.specs.declared.Written.{Written}
+use Rattle.std.specs.Prelude.{Option, Some, None, Result, Ok, Err}
 use Rattle.converter.specs.PlanCode.{Wrote, WroteOr}
 use Rattle.lists.specs.FillsCode.{Filled}
 use Rattle.lists.proofs.Fills.{filled_none, filled_all, filled_count, filled_one, filled_more}
@@ -92,26 +92,37 @@ behind_first {all} {d} {us} {e} {r} rest s k w =
     rw (← zero-add r) (on (behind_none k) us rest s w.count (w.words ∙ rw (zero-add r, w.count)))
 
 -- ---- words, if there is no fault
-module _ {fault : Refusal} {ws d e : List ℕ} {r : Written} (s : r.fault ≡ fault) where
-  pub or_words : Wrote ws d r.count e → r.count ≤ length d → WroteOr fault ws d r e
-  or_words w h = record { same = s; wrote = λ z. w; within = h; long = wrote_long w h }
+module _ {fault : Option Refusal} {ws d e : List ℕ} where
+  pub or_words : {n : ℕ} → fault ≡ None → Wrote ws d n e → n ≤ length d → WroteOr fault ws d (Ok n) e
+  or_words {n} s w h = record {
+    wrote = λ m q.
+        let z : n ≡ m = cc in
+        (s, subst (λ (k : ℕ). Wrote ws d k e) z w, omega (arith, z, h));
+    refused = λ q g. cc;
+    long = wrote_long w h;
+  }
 
-  pub or_none : (r.fault.number ≡ 0 → ⊥) → r.count ≡ 0 → length e ≡ length d → WroteOr fault ws d r e
-  or_none f c l =
-      record { same = s; wrote = λ z. absurd (f (ap (λ (q : Refusal). q.number) s ∙ z)); within = omega (arith, c); long = l }
+  pub or_none : {q : Refusal} → fault ≡ Some q → length e ≡ length d → WroteOr fault ws d (Err q) e
+  or_none {q} s l = record {
+    wrote = λ n g. cc;
+    refused = λ p g.
+        let z : q ≡ p = cc in
+        s ∙ ap Some z;
+    long = l;
+  }
 
 -- behind other words
-module _ {fault : Refusal} {all d vs us : List ℕ} {n : ℕ} {e p : List ℕ} {r : Written} (b : Behind all d vs n e)
+module _ {fault : Option Refusal} {all d vs us : List ℕ} {n : ℕ} {e p : List ℕ} {r : Result ℕ Refusal} (b : Behind all d vs n e)
     (w : WroteOr fault us (lent e n) r p) where
-  pub or_room : n + r.count ≤ length d
-  or_room = omega (arith, b.room, b.filled.long, length_lent e n, w.within)
+  pub or_room : (m : ℕ) → r ≡ Ok m → n + m ≤ length d
+  or_room m q = omega (arith, b.room, b.filled.long, length_lent e n, (w.wrote m q).2)
 
   pub or_long : length (back e n p) ≡ length d
   or_long =
       let rest = drop (length e - n) (drop n e) in
       omega (
         arith,
-        or_room,
+        b.room,
         b.filled.long,
         length_lent e n,
         w.long,
@@ -123,11 +134,12 @@ module _ {fault : Refusal} {all d vs us : List ℕ} {n : ℕ} {e p : List ℕ} {
         length-append p rest,
       )
 
-pub or_last : {fault : Refusal} {all d vs : List ℕ} {n : ℕ} {e p : List ℕ} {r t : Written} → Behind all d vs n e
-    → WroteOr fault vs (lent e n) r p → t.fault ≡ r.fault → t.count ≡ n + r.count → WroteOr fault all d t (back e n p)
-or_last {fault} {all} {d} {vs} {n} {e} {p} {r} {t} b w s c = record {
-  same = s ∙ w.same;
-  wrote = λ z. rw c (behind_all (behind_more b vs [] (sym (append-nil vs)) (w.wrote z)) refl);
-  within = omega (arith, or_room b w, c);
-  long = or_long b w;
-}
+-- the last of them
+module _ {fault : Option Refusal} {all d vs : List ℕ} {n : ℕ} {e p : List ℕ} {r : Result ℕ Refusal} (b : Behind all d vs n e)
+    (w : WroteOr fault vs (lent e n) r p) where
+  pub last_words : (m : ℕ) → r ≡ Ok m → WroteOr fault all d (Ok (n + m)) (back e n p)
+  last_words m q =
+      or_words (w.wrote m q).0 (behind_all (behind_more b vs [] (sym (append-nil vs)) (w.wrote m q).1) refl) (or_room b w m q)
+
+  pub last_none : (q : Refusal) → r ≡ Err q → WroteOr fault all d (Err q) (back e n p)
+  last_none q z = or_none (w.refused q z) (or_long b w)

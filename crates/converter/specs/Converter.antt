@@ -1,8 +1,7 @@
 -- Paper 01, "The plan" and "Refusal numbers": the plan of a document, its faults in the paper's order, and what `convert` answers.
-use Rattle.std.specs.Prelude.{ℕ, ◌≤◌, ◌<◌, ◌≡◌, List, [], ◌∷◌, ◌++◌, map, length, drop}
+use Rattle.std.specs.Prelude.{ℕ, ◌≤◌, ◌<◌, ◌≡◌, List, [], ◌∷◌, ◌++◌, map, length, drop, Result, Ok, Err}
 use Rattle.std.proofs.Math.Option.{Option, none, some}
-use Rattle.shape.specs.declared.Shape.{Shape}
-use Rattle.shape.specs.Shape.{Node, WellShaped, Shaped, shape_refusal}
+use Rattle.shape.specs.Shape.{Shape, Node, WellShaped, Shaped, shape_refusal}
 use Rattle.records.specs.Records.{PlanStatement, sum_from}
 use Rattle.loader.specs.Plan.{Plan, words_of}
 use Rattle.grammar.specs.Outcome.{Becomes}
@@ -10,8 +9,7 @@ use Rattle.file_rules.specs.Element.{Known, Fault, value_of}
 use Rattle.file_rules.specs.Reading.{is, trigger_of, filter_of}
 use Rattle.file_rules.specs.Document.{known_elements, element_faults}
 use Rattle.file_rules.specs.Tables.{kept, is_in, channels_of, actions_of, expressions_of, expression_of, names_of, logs_all, table_faults}
-use Rattle.converter.specs.declared.Converted.{Converted}
-use Rattle.converter.specs.declared.Converted.TheVariants.{Words, Refused}
+use Rattle.file_rules.specs.declared.Refusal.{Refusal}
 use Rattle.lists.specs.Lists.{gathered}
 
 -- "Words: 1, channels n, log_all, triggers, filters, statements."
@@ -70,11 +68,15 @@ pub data Refuses (s : List ℕ) (room n p : ℕ) : Type 0 where
       → p ≡ length ws
       → Refuses s room n p
 
+-- how many words were written, or the refusal
+abbrev pub Converted : Type 0
+Converted = Result ℕ Refusal
+
 -- "A refusal writes no plan word; success answers the plan's length and leaves the words behind it as they were."
 pub data Converts (s d : List ℕ) : Converted → List ℕ → Type 0 where
-  refuses : (n p : ℕ) → Refuses s (length d) n p → Converts s d (Refused n p) d
-  converts : (ws : List ℕ) → Meets s ws → length ws ≤ length d → Converts s d (Words (length ws)) (ws ++ drop (length ws) d)
+  refuses : (r : Refusal) → Refuses s (length d) r.number r.place → Converts s d (Err r) d
+  converts : (ws : List ℕ) → Meets s ws → length ws ≤ length d → Converts s d (Ok (length ws)) (ws ++ drop (length ws) d)
 
 -- each answer's number and value: 0 and the plan's length, or the paper's number and place
 abbrev pub convert_answer : Converted → ℕ × ℕ
-convert_answer a = elim a [ Words n ↦ (0, n) | Refused n p ↦ (n, p) ]
+convert_answer a = elim a [ Ok n ↦ (0, n) | Err r ↦ (r.number, r.place) ]

@@ -1,15 +1,17 @@
 -- The fold of known elements into an index.
 use Prim.Native.Nat.{ℕ}
-use mathlib.Core.Path.{◌≡◌, refl, sym, ap, ◌∙◌}
+use mathlib.Core.Path.{◌≡◌, refl}
 use mathlib.Core.List.{List, [], ◌∷◌, ◌++◌}
-use mathlib.Core.Bool.{Bool, true, ◌||◌, true≢false}
-use lib.Dec.{eqb}
-use borrow.Author.Tests.{eq-eqb, ne_eqb, eqb-true}
+use mathlib.Core.Bool.{Bool, ◌||◌}
+use Rattle.std.specs.Prelude.{Some, None, Ok, Err}
 use Rattle.lists.proofs.Cases.{by_cases}
-use Rattle.file_rules.specs.Element.{Known, own_faults}
+use Rattle.file_rules.specs.Element.{Known, Fault, own_faults}
+use Rattle.file_rules.specs.RefusalCode.{refused_at}
+use Rattle.file_rules.specs.declared.Refusal.{Refusal}
 use Rattle.element.specs.ElementCode.{first_number}
-use Rattle.document.specs.EntriesCode.{entry_of}
-use Rattle.document.specs.DocumentCode.{Index, refused_index, entered, absorbed, absorb}
+use Rattle.element.proofs.Laws.{fault_place}
+use Rattle.document.specs.EntriesCode.{Entry, entry_of}
+use Rattle.document.specs.DocumentCode.{Index, entered, first_or, absorbed, absorb}
 use Rattle.lists.specs.Lists.{any}
 
 pub absorb_append : (ks ms : List Known) (x : Index) → absorb (ks ++ ms) x ≡ absorb ms (absorb ks x)
@@ -17,28 +19,37 @@ unfolding absorb
 absorb_append [] ms x = refl
 absorb_append (k ∷ ks) ms x = absorb_append ks ms (absorbed k x)
 
--- the first fault stands
-pub absorb_still : (ks : List Known) (x : Index) → (x.fault.number ≡ 0 → ⊥) → absorb ks x ≡ x
+-- the first refusal stands
+pub absorb_still : (ks : List Known) (q : Refusal) → absorb ks (Err q) ≡ Err q
 unfolding absorb absorbed
-absorb_still [] x h = refl
-absorb_still (k ∷ ks) x h = rw (ne_eqb x.fault.number 0 h) (absorb_still ks x h)
+absorb_still [] q = refl
+absorb_still (k ∷ ks) q = absorb_still ks q
 
-pub absorb_none : (ks : List Known) (x : Index) → (absorb ks x).fault.number ≡ 0 → x.fault.number ≡ 0
-absorb_none ks x e =
-    by_cases (eqb x.fault.number 0) (λ t. eqb-true x.fault.number 0 t)
-    (λ t. ap (λ (y : Index). y.fault.number) (sym (absorb_still ks x (λ z. true≢false (sym (eq-eqb x.fault.number 0 z) ∙ t)))) ∙ e)
+-- where there is none in the end, there was none
+pub absorb_none : (ks : List Known) (x : Index) (es : List Entry) → absorb ks x ≡ Ok es → (ds : List Entry) × (x ≡ Ok ds)
+absorb_none ks (Ok ds) es e = (ds, refl)
+absorb_none ks (Err q) es e = cc (absorb_still ks q)
 
 -- an element without a fault is entered
-pub absorb_enter : (k : Known) (x : Index) → eqb x.fault.number 0 ≡ true → first_number (own_faults k) ≡ 0
+pub absorb_enter : (k : Known) (x : Index) (es : List Entry) → x ≡ Ok es → first_number (own_faults k) ≡ None
     → absorbed k x ≡ entered x (entry_of k)
-unfolding absorbed
-absorb_enter k x o h = rw (o, eq-eqb (first_number (own_faults k)) 0 h)
+unfolding absorbed entered first_number
+absorb_enter k x es o h = rw o (by_first (own_faults k) h)
+  where
+    by_first : (l : List Fault) → first_number l ≡ None → first_or l (entered (Ok es) (entry_of k)) ≡ entered (Ok es) (entry_of k)
+    by_first [] z = refl
+    by_first (a ∷ l) z = cc
 
 -- and one with a fault refuses
-pub absorb_refuse : (k : Known) (x : Index) → eqb x.fault.number 0 ≡ true → (n : ℕ) → first_number (own_faults k) ≡ n → (n ≡ 0 → ⊥)
-    → absorbed k x ≡ refused_index n k.place
-unfolding absorbed
-absorb_refuse k x o n h w = rw (o, h, ne_eqb n 0 w)
+pub absorb_refuse : (k : Known) (x : Index) (es : List Entry) → x ≡ Ok es → (n : ℕ) → Some n ≡ first_number (own_faults k)
+    → absorbed k x ≡ Err (refused_at n k.place)
+unfolding absorbed first_number
+absorb_refuse k x es o n h = rw o (by_first (own_faults k) refl h)
+  where
+    by_first : (l : List Fault) → own_faults k ≡ l → Some n ≡ first_number l
+        → first_or l (entered (Ok es) (entry_of k)) ≡ Err (refused_at n k.place)
+    by_first [] e z = cc
+    by_first (a ∷ l) e z = let p = fault_place k a l e in let m : n ≡ a.number = cc in rw (p, m)
 
 pub any_append : {X : Type 0} (p : X → Bool) (xs ys : List X) → any p (xs ++ ys) ≡ (any p xs || any p ys)
 unfolding any

@@ -1,13 +1,12 @@
 -- Entries one behind the other in a buffer of words: they are read back as they were written, and one more goes behind them.
-use Prim.Native.Nat.{ℕ, zero, suc, ◌+◌, ◌/◌, ◌%◌, ◌≤◌, ◌<◌}
+use Prim.Native.Nat.{ℕ, zero, suc, ◌+◌, ◌-◌, ◌/◌, ◌%◌, ◌≤◌, ◌<◌}
 use native.Mathlib.Omega.{arith}
-use native.Mathlib.Nat.{le_refl, add-zero}
-use native.Mathlib.Numerals.{add-one}
+use native.Mathlib.Nat.{le_refl}
 use mathlib.Core.Path.{◌≡◌, refl, sym, ap, ◌∙◌}
 use mathlib.Core.List.{List, [], ◌∷◌, ◌++◌, append_assoc, append-nil}
-use mathlib.Core.Bool.{true}
-use lib.ListN.{length, get_or, set, take, drop, length-append}
-use lib.Seq.{take_at, drop_at, length-take-le, take_all, take-suc}
+use mathlib.Core.Bool.{true, false}
+use lib.ListN.{length, set, take, drop, length-append, length-drop}
+use lib.Seq.{take_at, drop_at, drop-drop, length-take-le}
 use borrow.Author.Tests.{le-leb, lt-leb}
 use Rattle.lists.specs.Lists.{gathered, Every}
 use Rattle.lists.specs.FillsCode.{Filled}
@@ -15,9 +14,13 @@ use Rattle.lists.proofs.Cases.{by_cases}
 use Rattle.lists.proofs.Fills.{filled_count, filled_one, filled_then}
 use Rattle.schema.specs.SchemaCode.{attribute_count, kind_name, is_ruled}
 use Rattle.element.specs.declared.Gathered.{Gathered}
+use Rattle.std.specs.Prelude.{Result, Ok, Err, is_ok}
+use Rattle.file_rules.specs.declared.Refusal.{Refusal}
+use Rattle.file_rules.specs.declared.Breach.TheVariants.{Lacking}
+use Rattle.file_rules.specs.RefusalCode.{breach_at}
 use Rattle.document.specs.declared.Walk.{Walk}
 use Rattle.document.specs.EntriesCode.{Entry, entry_words, written, entry_most, row_size, entry_from, entries_from, entries_in}
-use Rattle.document.specs.DocumentCode.{entered, entry_by, found, Formed, Sound, EnteredIs}
+use Rattle.document.specs.DocumentCode.{entered, entry_by, index_in, found, Formed, Sound, EnteredIs, Holds, index_at}
 
 -- ---- read back
 drop_two : (m a b : ℕ) (l : List ℕ) → drop (m + 2) (a ∷ b ∷ l) ≡ drop m l
@@ -46,15 +49,42 @@ entries_from_lem (e ∷ es) f (suc n) h =
 pub entries_back : (es : List Entry) → Every Formed es → entries_in (written es) ≡ es
 entries_back es f = entries_from_lem es f (length (written es)) (le_refl (length (written es)))
 
-pub sound_entries : (end : ℕ) (ms : List ℕ) (s : Sound end ms) → entries_in (take end ms) ≡ s.entries
-sound_entries end ms s = ap entries_in s.words ∙ entries_back s.entries s.formed
+-- a walk goes on where its end says so, whatever the words
+pub index_ok : (end : Result ℕ Refusal) (ms : List ℕ) → is_ok end ≡ is_ok (index_in end ms)
+index_ok (Ok end) ms = refl
+index_ok (Err q) ms = refl
 
-pub sound_none : (end : ℕ) (ms : List ℕ) → end ≡ 0 → Sound end ms
+pub sound_entries : (end : ℕ) (ms : List ℕ) (s : Sound (Ok end) ms) → entries_in (take end ms) ≡ s.0
+sound_entries end ms s = ap entries_in s.1.words ∙ entries_back s.0 s.1.formed
+
+pub sound_none : (end : Result ℕ Refusal) (ms : List ℕ) → end ≡ Ok 0 → Sound end ms
 unfolding gathered Every
-sound_none end ms e = rw e (record { entries = []; formed = tt; words = refl; long = refl })
+sound_none end ms e = rw e ([], record { words = refl; long = refl; formed = tt })
 
-pub sound_same : (end end' : ℕ) (ms : List ℕ) → Sound end ms → end' ≡ end → Sound end' ms
+pub sound_refused : (end : Result ℕ Refusal) (ms : List ℕ) (q : Refusal) → end ≡ Err q → Sound end ms
+sound_refused end ms q e = rw e tt
+
+pub sound_same : (end end' : Result ℕ Refusal) (ms : List ℕ) → Sound end ms → end' ≡ end → Sound end' ms
 sound_same end end' ms s e = rw e s
+
+-- ---- the end of the walk
+module _ (w : Walk) (root : ℕ) where
+  module _ (end : ℕ) (o : w.end ≡ Ok end) where
+    pub settle_lacks : w.lacking ≡ true → (q : Refusal) → q ≡ breach_at Lacking root → (ms : List ℕ)
+        → Holds (Err q) ms (index_at root (found w ms))
+    unfolding index_at found
+    settle_lacks t q e ms = rw (o, t) e
+
+    pub settle_holds : w.lacking ≡ false → (ms : List ℕ) → Sound w.end ms → Holds (Ok end) ms (index_at root (found w ms))
+    unfolding index_at found
+    settle_holds t ms s =
+        let x = sound_same w.end (Ok end) ms s (sym o) in
+        rw (o, t, sound_entries end ms x) x.1
+
+  pub settle_refused : (q : Refusal) → w.end ≡ Err q → (r : Result ℕ Refusal) → r ≡ Err q → (ms : List ℕ)
+      → Holds r ms (index_at root (found w ms))
+  unfolding index_at found
+  settle_refused q o r e ms = rw (o, e) refl
 
 -- ---- one more
 every_snoc : (es : List Entry) (e : Entry) → Every Formed es → Formed e → Every Formed (es ++ (e ∷ []))
@@ -73,30 +103,39 @@ unfolding row_size
 row_long k p n g l = by_cases (is_ruled (kind_name k)) (λ t. rw t (omega (arith, l))) (λ t. rw t)
 
 module _ (w : Walk) (ms : List ℕ) (s : Sound w.end ms) (e : Entry) where
-  pub enters : (ms' : List ℕ) (end : ℕ) → Formed e → w.end ≤ entry_most → Filled (take w.end ms ++ entry_words e) ms ms' end
-      → EnteredIs (found w ms) e w.at (record { at = w.at; fault = w.fault; end = end; lacking = w.lacking }) ms'
-  unfolding found entered
-  enters ms' end f h x =
-      let es = s.entries in
-      let a : take end ms' ≡ written (es ++ (e ∷ [])) =
-      x.words ∙ (ap (λ (l : List ℕ). l ++ entry_words e) s.words ∙ sym (written_snoc es e)) in
-      let z : Sound end ms' = record {
-        entries = es ++ (e ∷ []);
-        formed = every_snoc es e s.formed f;
-        words = a;
-        long = sym (filled_count x) ∙ ap length (sym x.words ∙ a);
-      } in
-      record {
-        walks =
-            rw (sound_entries end ms' z, sound_entries w.end ms s, ← s.long, le-leb w.end entry_most h);
-        stays = refl;
-        sound = z;
-      }
+  module _ (at : ℕ) (o : w.end ≡ Ok at) where
+    here : Sound (Ok at) ms
+    here = sound_same w.end (Ok at) ms s (sym o)
 
-  pub enters_none : entry_most < w.end → EnteredIs (found w ms) e w.at w ms
+    pub enters : (ms' : List ℕ) (end : ℕ) → Formed e → at ≤ entry_most → Filled (take at ms ++ entry_words e) ms ms' end
+        → EnteredIs (found w ms) e w.at (record { at = w.at; end = Ok end; lacking = w.lacking }) ms'
+    unfolding found entered
+    enters ms' end f h x =
+        let es = here.0 in
+        let a : take end ms' ≡ written (es ++ (e ∷ [])) =
+        x.words ∙ (ap (λ (l : List ℕ). l ++ entry_words e) here.1.words ∙ sym (written_snoc es e)) in
+        let z : Sound (Ok end) ms' = (
+          es ++ (e ∷ []),
+          record { words = a; long = sym (filled_count x) ∙ ap length (sym x.words ∙ a); formed = every_snoc es e here.1.formed f },
+        ) in
+        record {
+          walks = rw (o, sound_entries end ms' z, sound_entries at ms here, ← here.1.long, le-leb at entry_most h);
+          stays = refl;
+          sound = z;
+        }
+
+    pub enters_none : entry_most < at → EnteredIs (found w ms) e w.at w ms
+    unfolding found entered
+    enters_none h =
+        record { walks = rw (o, sound_entries at ms here, ← here.1.long, lt-leb at entry_most h); stays = refl; sound = s }
+
+  pub enters_refused : ((at : ℕ) → w.end ≡ Ok at → ⊥) → EnteredIs (found w ms) e w.at w ms
   unfolding found entered
-  enters_none h =
-      record { walks = rw (sound_entries w.end ms s, ← s.long, lt-leb w.end entry_most h); stays = refl; sound = s }
+  enters_refused h = by_end w.end refl
+    where
+      by_end : (r : Result ℕ Refusal) → w.end ≡ r → EnteredIs (found w ms) e w.at w ms
+      by_end (Ok at) o = absurd (h at o)
+      by_end (Err q) o = record { walks = rw o; stays = refl; sound = s }
 
 -- ---- words put behind those that stand there
 filled_self : (ws : List ℕ) (at : ℕ) → at ≤ length ws → Filled (take at ws) ws ws at
@@ -138,16 +177,33 @@ module _ (ws : List ℕ) (at k p n : ℕ) (h : at + 3 ≤ length ws) where
       rw t (rw (append_assoc (take at ws) (k ∷ p ∷ n ∷ low ∷ high ∷ []) g.values) at
       (then_more ws _ ms (take at ws ++ (k ∷ p ∷ n ∷ low ∷ high ∷ [])) g.values (at + 5) r b y))
 
--- the first a of the values, one more, and all
-pub values_none : (vs ws : List ℕ) (at : ℕ) → at ≤ length ws → Filled (take at ws ++ take 0 vs) ws ws (at + 0)
-values_none vs ws at h = rw (append-nil (take at ws), add-zero at) (filled_self ws at h)
+-- values in place of as many words
+module _ (vs ws us : List ℕ) (at : ℕ) (l : length vs ≡ attribute_count) (h : at + attribute_count ≤ length ws) (e : us ≡ vs) where
+  abbrev after : List ℕ
+  after = take at ws ++ (us ++ drop (at + attribute_count - at) (drop at ws))
 
-pub values_more : (vs ws ms : List ℕ) (at a : ℕ) → Filled (take at ws ++ take a vs) ws ms (at + a) → a < length vs → at + a < length ws
-    → Filled (take at ws ++ take (a + 1) vs) ws (set ms (at + a) (get_or vs a 0)) (at + (a + 1))
-values_more vs ws ms at a x h k =
-    let y = filled_one (take at ws ++ take a vs) ws ms (at + a) (at + (a + 1)) (get_or vs a 0) x k (omega arith) in
-    rw (add-one a, take-suc vs a 0 h, ← append_assoc (take at ws) (take a vs) (get_or vs a 0 ∷ [])) (rw (add-one a) at y)
+  -- they reach to the end of the row
+  parts : after ≡ (take at ws ++ vs) ++ drop (at + attribute_count) ws
+  parts =
+      let n : at + (at + attribute_count - at) ≡ at + attribute_count = omega arith in
+      rw (e, drop-drop (at + attribute_count - at) at ws, n) (sym (append_assoc (take at ws) vs (drop (at + attribute_count) ws)))
 
-pub values_all : (vs ws ms : List ℕ) (at a : ℕ) → Filled (take at ws ++ take a vs) ws ms (at + a) → length vs ≤ a
-    → Filled (take at ws ++ vs) ws ms (at + a)
-values_all vs ws ms at a x h = rw (take_all a vs h) at x
+  up_to : length (take at ws ++ vs) ≡ at + attribute_count
+  up_to = omega (arith, l, length-take-le at ws (omega (arith, h)), length-append (take at ws) vs)
+
+  pub values_long : length after ≡ length ws
+  values_long = rw parts (omega (
+    arith,
+    up_to,
+    h,
+    length-append (take at ws ++ vs) (drop (at + attribute_count) ws),
+    length-drop (at + attribute_count) ws,
+  ))
+
+  pub values_put : Filled (take at ws ++ vs) ws after (at + attribute_count)
+  values_put = record {
+    words = ap (take (at + attribute_count)) parts ∙ take_at (take at ws ++ vs) (drop (at + attribute_count) ws) (at + attribute_count) up_to;
+    rest = ap (drop (at + attribute_count)) parts ∙ drop_at (take at ws ++ vs) (drop (at + attribute_count) ws) (at + attribute_count) up_to;
+    long = values_long;
+    within = h;
+  }

@@ -24,21 +24,22 @@ use Rattle.walk.proofs.WalkLaws.{BodyTold, content_law, item_law, skip_law, text
 use Rattle.walk.proofs.Strays.{StrayTurn, stray_start, stray_blank, stray_found}
 use Rattle.document.specs.declared.Inside.{Inside}
 use Rattle.document.specs.declared.Seen.{Seen}
+use Rattle.document.specs.declared.Walk.{Walk}
 use Rattle.document.specs.DocumentCode.{FoundSoFar, none_seen, marked, is_over, closed_walk, child_at, visit_body, visit_from, found, Sound, Ready, InsideIs}
 use Rattle.document.proofs.Turns.{VisitTurn, on_text, on_remark, on_child, on_close, inside_open, inside_empty}
 
 -- ---- the element that is visited
-pub ready_deep : (f : List ℕ) (d i : ℕ) (ms : List ℕ) → Ready f d i ms → d ≡ 0 → ⊥
-ready_deep f zero i ms z e = element_deep f i z.node z.end z.stands
-ready_deep f (suc d) i ms z e = absurd (omega arith)
+pub ready_deep : (f : List ℕ) (d : ℕ) (w : Walk) (ms : List ℕ) → Ready f d w ms → d ≡ 0 → ⊥
+ready_deep f zero w ms z e = element_deep f w.at z.node z.end z.stands
+ready_deep f (suc d) w ms z e = absurd (omega arith)
 
 -- for what it holds there is one level less
-pub ready_inside : (f : List ℕ) (d i i' : ℕ) (ms ms' : List ℕ) → Ready f d i ms → i' ≡ i → length ms' ≡ length ms
-    → Ready f (suc (d - 1)) i' ms'
-ready_inside f d i i' ms ms' z p l =
-    let n = ready_deep f d i ms z in
+pub ready_inside : (f : List ℕ) (d : ℕ) (w v : Walk) (ms ms' : List ℕ) → Ready f d w ms → v.at ≡ w.at → length ms' ≡ length ms
+    → Sound v.end ms' → Ready f (suc (d - 1)) v ms'
+ready_inside f d w v ms ms' z p l s =
+    let n = ready_deep f d w ms z in
     let e : suc (d - 1) ≡ d = omega arith in
-    rw (e, p) (record { room = l ∙ z.room; short = z.short; shallow = z.shallow; node = z.node; end = z.end; stands = z.stands })
+    rw e (record { room = l ∙ z.room; short = z.short; shallow = z.shallow; node = z.node; end = z.end; stands = rw p z.stands; sound = s })
 
 pub inside_moved : (f : List ℕ) (left : ℕ) (k : ℕ) (r : FoundSoFar) (v : Inside) (ms : List ℕ) (i i' : ℕ) → i ≡ i'
     → InsideIs f i (visit_body (visit_from f left) f k r (content_at f i)) v ms
@@ -64,7 +65,10 @@ pub record Inner (f : List ℕ) (left i : ℕ) (q : ℕ) (j : ℕ) (s : Seen) (r
   pub stands : ContentStands f left j items (skipped f i)
   pub strays : walks.Turn (λ n m. b || stray (walk_items (texting f) f n m)) (length f) j (stray (text_at f i))
 
-module _ (f : List ℕ) (left i : ℕ) (ms : List ℕ) (z : Ready f (suc left) i ms) where
+module _ (f : List ℕ) (left : ℕ) (walk : Walk) (ms : List ℕ) (z : Ready f (suc left) walk ms) where
+  abbrev i : ℕ
+  i = walk.at
+
   end_is : skipped f i ≡ z.end
   end_is = skip_law f (suc left) i z.node z.end z.stands z.shallow
 
@@ -166,11 +170,12 @@ module _ (f : List ℕ) (left i : ℕ) (q : ℕ) (j : ℕ) (s : Seen) (r : Found
       }
 
   -- a child may be visited
-  pub child_ready : (ms ms' : List ℕ) → Ready f (suc left) i ms → length ms' ≡ length ms → Item.Child ≡ item_at f j → Ready f left j ms'
-  child_ready ms ms' y l p =
+  pub child_ready : (v w : Walk) (ms ms' : List ℕ) → Ready f (suc left) v ms → length ms' ≡ length ms → Item.Child ≡ item_at f j → w.at ≡ j
+      → Sound w.end ms' → Ready f left w ms'
+  child_ready v w ms ms' y l p h x =
       let t = item_law f left j z.items (skipped f i) z.stands Item.Child p in
-      let w = y.shallow in
-      record { room = l ∙ y.room; short = y.short; shallow = omega arith; node = t.0; end = t.2; stands = t.4 }
+      let d = y.shallow in
+      record { room = l ∙ y.room; short = y.short; shallow = omega arith; node = t.0; end = t.2; stands = rw h t.4; sound = x }
 
   -- c is the child's kind, o whether it is one too many, v what its visit gave, m the marks then, k behind it
   pub inner_child : suc left ≤ 8 → (c : ℕ) (o : Bool) (v : FoundSoFar) (m : Seen) (k : ℕ) → Item.Child ≡ item_at f j → c ≡ child_at f j q

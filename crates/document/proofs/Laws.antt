@@ -5,15 +5,16 @@ use mathlib.Core.Path.{◌≡◌, refl, sym, ap, ◌∙◌, subst}
 use mathlib.Core.List.{List, [], ◌∷◌, ◌++◌, map, map-append, append_assoc, append-nil}
 use mathlib.Core.Option.{Option, none, some}
 use mathlib.Core.Bool.{true, false}
-use lib.Dec.{eqb, leb}
+use lib.Dec.{eqb}
+use Rattle.std.specs.Prelude.{Ok, Err}
 use lib.ListN.{length, get_or, length-append}
-use borrow.Author.Tests.{eq-eqb, ne_eqb, le-leb}
+use borrow.Author.Tests.{ne_eqb, le-leb}
 use Rattle.text.specs.Texts.{bytes, same}
 use Rattle.lists.proofs.Cases.{by_cases}
 use Rattle.lists.proofs.BitLaws.{bit_none}
-use Rattle.shape.specs.declared.Shape.{Shape}
-use Rattle.shape.specs.declared.Shape.TheVariants.{Whole, TooLong, Broken}
-use Rattle.shape.specs.Shape.{Attribute, Node, node, Items, WellShaped, Shaped, shape_refusal}
+use Rattle.std.specs.Prelude.{Ok, Err}
+use Rattle.shape.specs.declared.Unshaped.TheVariants.{TooLong, Broken}
+use Rattle.shape.specs.Shape.{Shape, Attribute, Node, node, Items, WellShaped, Shaped, shape_refusal}
 use Rattle.shape.proofs.OneAnswer.{one_answer}
 use Rattle.walk.specs.WalkCode as walk
 use Rattle.walk.specs.StandsCode.{ElementAt}
@@ -22,12 +23,12 @@ use Rattle.schema.specs.Schema.{one_of, under, parent_in, parents}
 use Rattle.schema.specs.SchemaCode.{names, name_in, kind_name, is_carried}
 use Rattle.schema.proofs.Laws.{kind_carried}
 use Rattle.file_rules.specs.Element.{Known, Fault, ◌at◌if◌, own_faults}
-use Rattle.element.specs.ElementCode.{first_number}
-use Rattle.element.proofs.Laws.{fault_place, no_fault}
+use Rattle.file_rules.specs.declared.Breach.TheVariants.{Long, Shapeless}
+use Rattle.file_rules.specs.RefusalCode.{refused_at, breach_at}
 use Rattle.document.specs.EntriesCode.{Entry, entry_of, written, entry_most}
 use Rattle.file_rules.specs.Document.{known_elements, known_in, known_at, lacks, element_faults}
-use Rattle.document.specs.DocumentCode.{Index, absorbed, absorb, entered, refused_index, FoundSoFar, empty, index_of, none_seen, is_over, child_at, visit_from, none_found, index_at, indexed, Indexes}
-use Rattle.document.proofs.Absorbs.{absorb_still, absorb_enter, absorb_refuse}
+use Rattle.document.specs.DocumentCode.{Index, absorbed, absorb, entered, FoundSoFar, index_of, none_seen, is_over, child_at, visit_from, none_found, index_at, indexed, Indexes}
+use Rattle.document.proofs.Absorbs.{absorb_still}
 use Rattle.document.proofs.Seens.{seen_none}
 use Rattle.document.proofs.Visits.{Agrees, child_kind, visits}
 use Rattle.document.proofs.Few.{Clean, clean_first, few}
@@ -36,10 +37,8 @@ use Rattle.lists.specs.Lists.{any, gathered}
 -- ---- the fold, if there is no fault
 absorb_one : (done : List Known) (k : Known) → own_faults k ≡ [] → length (written (map entry_of done)) ≤ entry_most
     → absorbed k (index_of done) ≡ index_of (done ++ (k ∷ []))
-unfolding entered index_of first_number
-absorb_one done k e h =
-    absorb_enter k (index_of done) refl (ap first_number e)
-    ∙ rw (le-leb (length (written (map entry_of done))) entry_most h, map-append entry_of done (k ∷ []))
+unfolding absorbed entered index_of
+absorb_one done k e h = rw (e, le-leb (length (written (map entry_of done))) entry_most h, map-append entry_of done (k ∷ []))
 
 written_some : (done ks : List Known)
     → length (written (map entry_of (done ++ ks))) ≡ length (written (map entry_of done)) + length (written (map entry_of ks))
@@ -65,60 +64,37 @@ absorb_all done (k ∷ ks) c h =
 -- the index x says what the faults gs say, or else the known elements ks
 abbrev pub Settles : List Fault → List Known → Index → Type 0
 Settles [] ks x = x ≡ index_of ks
-Settles (a ∷ l) ks x = x ≡ refused_index a.number a.place
+Settles (a ∷ l) ks x = x ≡ Err (refused_at a.number a.place)
 
 -- ---- the fold, if there is one
 head_of : {X : Type 0} {a b : X} {l m : List X} → a ∷ l ≡ b ∷ m → a ≡ b
 head_of {a = a} e = ap (λ l. get_or l 0 a) e
 
-entered_number : (x : Index) (e : Entry) → (entered x e).fault.number ≡ x.fault.number
-unfolding entered
-entered_number x e = by_cases (leb (length (written x.entries)) entry_most) (λ t. rw t) (λ t. rw t)
-
--- the index is that of the fault a, which has a number
-abbrev Refuses : Index → Fault → Type 0
-Refuses x a = (x ≡ refused_index a.number a.place) × (a.number ≡ 0 → ⊥)
-
-absorb_at : (k : Known) (ks : List Known) (x : Index) → x.fault.number ≡ 0 → (a : Fault) (l fs : List Fault) → own_faults k ≡ fs
+absorb_at : (k : Known) (ks : List Known) (es : List Entry) (a : Fault) (l fs : List Fault) → own_faults k ≡ fs
     → fs ++ gathered own_faults ks ≡ a ∷ l
-    → ((x : Index) → x.fault.number ≡ 0 → (a : Fault) (l : List Fault) → gathered own_faults ks ≡ a ∷ l → Refuses (absorb ks x) a)
-    → Refuses (absorb ks (absorbed k x)) a
-unfolding first_number
-absorb_at k ks x z a l [] e g rec =
-    let h : first_number (own_faults k) ≡ 0 = ap first_number e in
-    let r = rec (entered x (entry_of k)) (entered_number x (entry_of k) ∙ z) a l g in
-    (ap (absorb ks) (absorb_enter k x (eq-eqb x.fault.number 0 z) h) ∙ r.0, r.1)
-absorb_at k ks x z a l (b ∷ fs) e g rec =
-    let h : first_number (own_faults k) ≡ b.number = ap first_number e in
-    let w : b.number ≡ 0 → ⊥ = λ y. absurd (omega (arith, ap length (sym e ∙ no_fault k (h ∙ y)))) in
-    let c : absorbed k x ≡ refused_index b.number k.place = absorb_refuse k x (eq-eqb x.fault.number 0 z) b.number h w in (
-      ap (absorb ks) c
-          ∙ (absorb_still ks (refused_index b.number k.place) w
-          ∙ (ap (refused_index b.number) (sym (fault_place k b fs e))
-          ∙ ap (λ (y : Fault). refused_index y.number y.place) (head_of g))),
-      λ y. w (ap (λ (f : Fault). f.number) (head_of g) ∙ y),
-    )
+    → ((es : List Entry) → gathered own_faults ks ≡ a ∷ l → absorb ks (Ok es) ≡ Err (refused_at a.number a.place))
+    → absorb ks (absorbed k (Ok es)) ≡ Err (refused_at a.number a.place)
+unfolding absorbed entered
+absorb_at k ks es a l [] e g rec = rw e (rec _ g)
+absorb_at k ks es a l (b ∷ fs) e g rec =
+    rw e (absorb_still ks (refused_at b.number b.place) ∙ ap (λ (f : Fault). Err (refused_at f.number f.place)) (head_of g))
 
-absorb_fault : (ks : List Known) (x : Index) → x.fault.number ≡ 0 → (a : Fault) (l : List Fault) → gathered own_faults ks ≡ a ∷ l
-    → Refuses (absorb ks x) a
+absorb_fault : (ks : List Known) (es : List Entry) (a : Fault) (l : List Fault) → gathered own_faults ks ≡ a ∷ l
+    → absorb ks (Ok es) ≡ Err (refused_at a.number a.place)
 unfolding absorb gathered
-absorb_fault [] x z a l g = absurd (omega (arith, ap length g))
-absorb_fault (k ∷ ks) x z a l g = absorb_at k ks x z a l (own_faults k) refl g (absorb_fault ks)
+absorb_fault [] es a l g = absurd (omega (arith, ap length g))
+absorb_fault (k ∷ ks) es a l g = absorb_at k ks es a l (own_faults k) refl g (λ ds h. absorb_fault ks ds a l h)
 
 -- ---- the answer, for what the visit of the root gave
 module _ (i : ℕ) (ks : List Known) (r : FoundSoFar) (s : Agrees ks r none_found) where
   settled : (fs : List Fault) → gathered own_faults ks ≡ fs → (Clean ks → length (written (map entry_of ks)) ≤ entry_most) → (gs : List Fault)
       → gs ≡ fs ++ 8 at i if any lacks ks → Settles gs ks (index_at i r)
   unfolding index_at index_of
-  settled (a ∷ l) g h gs e =
-      let f = absorb_fault ks empty refl a l g in
-      rw (e, s.index ∙ f.0) (rw (ne_eqb a.number 0 f.1) refl)
+  settled (a ∷ l) g h gs e = rw (e, s.index ∙ absorb_fault ks [] a l g) refl
   settled [] g h gs e =
       let x : r.index ≡ index_of ks = s.index ∙ absorb_all [] ks g (h g) in
-      let z : r.index.fault.number ≡ 0 = ap (λ (y : Index). y.fault.number) x in
-      let t : r.lacking ≡ any lacks ks = s.lacking z in
-      by_cases (any lacks ks) (λ b. rw (e, eq-eqb r.index.fault.number 0 z, t, b) refl)
-      (λ b. rw (e, eq-eqb r.index.fault.number 0 z, t, b) x)
+      let t : r.lacking ≡ any lacks ks = s.lacking (map entry_of ks) x in
+      by_cases (any lacks ks) (λ b. rw (e, x, t, b) refl) (λ b. rw (e, x, t, b) refl)
 
 -- ---- a well-shaped file
 over_first : (k : ℕ) → is_over 0 k none_seen ≡ false
@@ -175,27 +151,27 @@ indexes_by : (f : List ℕ) (x : Node) → length f ≤ 32768 → WellShaped f x
 indexes_by f x short w [] e i s = rw s (Indexes.faultless x short w e)
 indexes_by f x short w (a ∷ l) e i s = rw s (Indexes.faulty x a l short w e)
 
-pub indexes_whole : (f : List ℕ) → Shaped f Whole → Indexes f (indexed f)
+pub indexes_whole : (f : List ℕ) → Shaped f (Ok tt) → Indexes f (indexed f)
 indexes_whole f s =
     (indexes_by f s.1.0 s.0 s.1.1 (element_faults s.1.0) refl (indexed f) (index_law f s.1.0 s.0 s.1.1))
 
-pub indexes_long : (f : List ℕ) → Shaped f TooLong → Indexes f (refused_index 1 32768)
-indexes_long f s = Indexes.shapeless TooLong 1 32768 s refl
+pub indexes_long : (f : List ℕ) → Shaped f (Err TooLong) → Indexes f (Err (breach_at Long 32768))
+indexes_long f s = Indexes.shapeless (Err TooLong) 1 32768 s refl
 
-pub indexes_broken : (f : List ℕ) (p : ℕ) → Shaped f (Broken p) → Indexes f (refused_index 2 p)
-indexes_broken f p s = Indexes.shapeless (Broken p) 2 p s refl
+pub indexes_broken : (f : List ℕ) (p : ℕ) → Shaped f (Err (Broken p)) → Indexes f (Err (breach_at Shapeless p))
+indexes_broken f p s = Indexes.shapeless (Err (Broken p)) 2 p s refl
 
 -- ---- it determines the index: that of the file's shape
 abbrev by_shape : List ℕ → Option (ℕ × ℕ) → Index
 by_shape f none = indexed f
-by_shape f (some r) = refused_index r.0 r.1
+by_shape f (some r) = Err (refused_at r.0 r.1)
 
 index_is : (f : List ℕ) (i : Index) → Indexes f i → (a : Shape) × Shaped f a × (by_shape f (shape_refusal a) ≡ i)
 index_is f i (Indexes.shapeless a n p s e) = (a, s, ap (by_shape f) e)
 index_is f i (Indexes.faulty x a l short w e) =
-    (Whole, (short, (x, w)), subst (λ gs. Settles gs (known_elements x) (indexed f)) e (index_law f x short w))
+    (Ok tt, (short, (x, w)), subst (λ gs. Settles gs (known_elements x) (indexed f)) e (index_law f x short w))
 index_is f i (Indexes.faultless x short w e) =
-    (Whole, (short, (x, w)), subst (λ gs. Settles gs (known_elements x) (indexed f)) e (index_law f x short w))
+    (Ok tt, (short, (x, w)), subst (λ gs. Settles gs (known_elements x) (indexed f)) e (index_law f x short w))
 
 pub one_index : (f : List ℕ) (i j : Index) → Indexes f i → Indexes f j → i ≡ j
 one_index f i j x y =

@@ -4,9 +4,9 @@ use native.Mathlib.Omega.{arith}
 use mathlib.Core.Path.{◌≡◌, refl, sym, ap, ◌∙◌}
 use mathlib.Core.List.{List}
 use mathlib.Core.Bool.{Bool, true, false, not, cond, ◌&&◌, ◌||◌}
-use lib.Dec.{eqb}
+use Rattle.std.specs.Prelude.{Option, Some, None, Err, is_some, is_none, is_ok, unwrap_or}
 use lib.ListN.{length}
-use borrow.Author.Tests.{eq-eqb, ne_eqb, not-true, not-false}
+use borrow.Author.Tests.{not-true, not-false}
 use Rattle.lists.proofs.Parts.{and_right}
 use Rattle.walk.specs.declared.Item.{Item}
 use Rattle.walk.specs.declared.Body.{Body}
@@ -15,13 +15,15 @@ use Rattle.walk.proofs.Bounds.{item_from, skipped_bounds}
 use Rattle.walk.proofs.Turns.{Turn, start, next, done}
 use Rattle.schema.specs.SchemaCode.{kind_name, kind_count, is_carried, is_barred}
 use Rattle.schema.proofs.Laws.{known_low}
+use Rattle.file_rules.specs.declared.Breach.{Breach}
+use Rattle.file_rules.specs.declared.Breach.TheVariants.{Rootless, Misvalued}
+use Rattle.file_rules.specs.RefusalCode.{breach_at}
 use Rattle.element.specs.declared.Gathered.{Gathered}
-use Rattle.element.specs.declared.fields.Said.{Said}
 use Rattle.element.specs.ElementCode.{rules_for, gathered_behind, gathered_at, short_in, said, said_at, worded, bad_in, bad_text, own_fault, tag_fault}
 use Rattle.element.proofs.Wordings.{fault_some, fault_text}
 use Rattle.document.specs.declared.Seen.{Seen}
 use Rattle.document.specs.declared.Walk.{Walk}
-use Rattle.document.specs.DocumentCode.{Index, FoundSoFar, entry_at, entry_by, none_seen, marked, is_over, closed_walk, child_at, looked, first_fault, fault_at, tag_fault_at, entered_found, refused_found, visit_items, visit_body, visit_from, refused_index, none_found, index_at, indexed, found}
+use Rattle.document.specs.DocumentCode.{Index, FoundSoFar, entry_at, entry_by, none_seen, marked, is_over, closed_walk, child_at, looked, first_fault, fault_at, tag_fault_at, entered_found, refused_found, visit_items, visit_body, visit_from, none_found, index_at, indexed, found}
 
 -- the steps of the loop, by what stands next
 module _ (visit : ℕ → ℕ → Bool → FoundSoFar → FoundSoFar) (f : List ℕ) (q j : ℕ) (s : Seen) (r : FoundSoFar) where
@@ -79,101 +81,118 @@ module _ (f : List ℕ) (i k : ℕ) (o : Bool) (r : FoundSoFar) where
   visit_past zero b e t = refl
   visit_past (suc d) b e t = rw (sym e ∙ not-true b t)
 
-  module _ (b : Bool) (e : b ≡ looked r k) (t : not b ≡ false) (n : ℕ) (g : n ≡ fault_at f i k o) where
-    pub visit_fault : (left : ℕ) → (left ≡ 0 → ⊥) → (n ≡ 0 → ⊥) → (v : FoundSoFar) → v ≡ refused_found r n i → v ≡ visit_from f left i k o r
+  module _ (b : Bool) (e : b ≡ looked r k) (t : not b ≡ false) where
+    pub visit_fault : (m : Breach) → Some m ≡ fault_at f i k o → (left : ℕ) → (left ≡ 0 → ⊥) → (v : FoundSoFar) → v ≡ refused_found r m i
+        → v ≡ visit_from f left i k o r
     unfolding visit_from
-    visit_fault zero h x v y = absurd (h refl)
-    visit_fault (suc d) h x v y = y ∙ rw (sym e ∙ not-false b t, ← g, ne_eqb n 0 x)
+    visit_fault m g zero h v y = absurd (h refl)
+    visit_fault m g (suc d) h v y = y ∙ rw (sym e ∙ not-false b t, ← g)
 
-    pub visit_good : (left : ℕ) → (left ≡ 0 → ⊥) → n ≡ 0 → (v w : FoundSoFar) → w ≡ entered_found r (entry_at f i k)
+    pub visit_good : None ≡ fault_at f i k o → (left : ℕ) → (left ≡ 0 → ⊥) → (v w : FoundSoFar) → w ≡ entered_found r (entry_at f i k)
         → v ≡ visit_body (visit_from f (left - 1)) f k w (content_at f i) → v ≡ visit_from f left i k o r
     unfolding visit_from
-    visit_good zero h x v w y z = absurd (h refl)
-    visit_good (suc d) h x v w y z =
+    visit_good g zero h v w y z = absurd (h refl)
+    visit_good g (suc d) h v w y z =
         let l : suc d - 1 ≡ d = omega arith in
-        z ∙ (rw (y, l) (rw (sym e ∙ not-false b t, ← g, eq-eqb n 0 x)))
+        z ∙ (rw (y, l) (rw (sym e ∙ not-false b t, ← g)))
 
 -- an element that is looked at has a kind
 pub looked_low : (r : FoundSoFar) (k : ℕ) (b : Bool) → b ≡ looked r k → not b ≡ false → k < kind_count
 unfolding looked
 looked_low r k b e t =
-    known_low k (and_right (eqb r.index.fault.number 0) (is_carried (kind_name k) || is_barred (kind_name k)) (sym e ∙ not-false b t))
+    known_low k (and_right (is_ok r.index) (is_carried (kind_name k) || is_barred (kind_name k)) (sym e ∙ not-false b t))
 
 -- the fault of an element, by what its tag tells, m
-module _ (f : List ℕ) (i k m : ℕ) where
-  fault_split : (a over : Bool) → a ≡ is_barred (kind_name k) → m ≡ tag_fault_at f i k over → m ≡ 0
-      → (tag_fault k f i ≡ 0) × (fault_at f i k over ≡ own_fault k f i)
+module _ (f : List ℕ) (i k : ℕ) (m : Option Breach) where
+  fault_split : (a over : Bool) → a ≡ is_barred (kind_name k) → m ≡ tag_fault_at f i k over → m ≡ None
+      → (tag_fault k f i ≡ None) × (fault_at f i k over ≡ own_fault k f i)
   unfolding first_fault tag_fault own_fault
-  fault_split true over a e z = absurd (omega (arith, rw (← a) at e))
-  fault_split false true a e z = absurd (omega (arith, rw (← a) at e))
+  fault_split true over a e z = cc (rw (← a) at e)
+  fault_split false true a e z = cc (rw (← a) at e)
   fault_split false false a e z = (sym (rw (← a) at e) ∙ z, rw (← a))
 
-  fault_kept : (a over : Bool) → a ≡ is_barred (kind_name k) → m ≡ tag_fault_at f i k over → (m ≡ 0 → ⊥) → fault_at f i k over ≡ 0 → ⊥
+  fault_kept : (a over : Bool) → a ≡ is_barred (kind_name k) → m ≡ tag_fault_at f i k over → (m ≡ None → ⊥) → fault_at f i k over ≡ None → ⊥
   unfolding first_fault tag_fault own_fault
-  fault_kept true over a e h z = absurd (omega (arith, rw (← a) at z))
-  fault_kept false true a e h z = absurd (omega (arith, rw (← a) at z))
+  fault_kept true over a e h z = cc (rw (← a) at z)
+  fault_kept false true a e h z = cc (rw (← a) at z)
   fault_kept false false a e h z = fault_some f i k (λ y. h (e ∙ rw (← a) y)) (rw (← a) at z)
 
--- what was read of the element at i, of the kind k: its attributes, its content, and what its text says
-pub record Read (f : List ℕ) (i k : ℕ) (g : Gathered) (b : Body) (s : Said) : Type 0 where
+some_is : (n : Option Breach) (d a : Breach) → (n ≡ None → ⊥) → a ≡ unwrap_or n d → Some a ≡ n
+some_is None d a h w = absurd (h refl)
+some_is (Some x) d a h w = ap Some w
+
+pub none_of : (n : Option Breach) → ((b : Breach) → n ≡ Some b → ⊥) → n ≡ None
+none_of None h = refl
+none_of (Some b) h = absurd (h b refl)
+
+-- what was read of the element at i, of the kind k: its attributes, its content, whether its text is misspelt, and the number in it
+pub record Read (f : List ℕ) (i k : ℕ) (g : Gathered) (b : Body) (s : Bool) (n : ℕ) : Type 0 where
   pub attributes : g ≡ gathered_at (rules_for k) f i
   pub content : b ≡ content_at f i
-  pub text : s ≡ said_at k f i
+  pub text : s ≡ is_none (said_at k f i)
+  pub number : n ≡ unwrap_or (said_at k f i) 0
 
-pub read_here : (f : List ℕ) (i to k : ℕ) (g : Gathered) (b : Body) (s : Said) → to ≡ (name_at f i).to → g ≡ gathered_behind (rules_for k) f to
-    → b ≡ content_behind f to → s ≡ said k (short_in f b) → Read f i k g b s
+not_back : (s t : Bool) → t ≡ not s → s ≡ not t
+not_back true t e = rw e
+not_back false t e = rw e
+
+pub read_here : (f : List ℕ) (i to k : ℕ) (g : Gathered) (b : Body) (a : Option ℕ) → to ≡ (name_at f i).to
+    → g ≡ gathered_behind (rules_for k) f to
+    → b ≡ content_behind f to → a ≡ said k (short_in f b) → (s : Bool) → is_some a ≡ not s → (n : ℕ) → n ≡ unwrap_or a 0 → Read f i k g b s n
 unfolding gathered_at content_at text_at
-read_here f i to k g b s e x y z =
+read_here f i to k g b a e x y z s u n v =
     let c : b ≡ content_at f i = y ∙ ap (content_behind f) e in
+    let w : a ≡ said_at k f i = z ∙ ap (λ (o : Body). said k (short_in f o)) c in
     record {
       attributes = x ∙ ap (gathered_behind (rules_for k) f) e;
       content = c;
-      text = z ∙ ap (λ (a : Body). said k (short_in f a)) c;
+      text = not_back s (is_some a) u ∙ ap is_none w;
+      number = v ∙ ap (λ (o : Option ℕ). unwrap_or o 0) w;
     }
 
-module _ (f : List ℕ) (i k : ℕ) (g : Gathered) (b : Body) (s : Said) (x : Read f i k g b s) where
+module _ (f : List ℕ) (i k : ℕ) (g : Gathered) (b : Body) (s : Bool) (n : ℕ) (x : Read f i k g b s n) where
   -- what the code entered is what is kept of it
-  pub entered_is : (v r : FoundSoFar) → v ≡ entered_found r (entry_by k i s.number g) → v ≡ entered_found r (entry_at f i k)
+  pub entered_is : (v r : FoundSoFar) → v ≡ entered_found r (entry_by k i n g) → v ≡ entered_found r (entry_at f i k)
   unfolding entry_at
   entered_is v r z =
-      z ∙ (ap (λ (t : Said). entered_found r (entry_by k i t.number g)) x.text
-      ∙ ap (λ (h : Gathered). entered_found r (entry_by k i (said_at k f i).number h)) x.attributes)
+      z ∙ (ap (λ (t : ℕ). entered_found r (entry_by k i t g)) x.number
+      ∙ ap (λ (h : Gathered). entered_found r (entry_by k i (unwrap_or (said_at k f i) 0) h)) x.attributes)
 
   -- the fault that its tag tells
-  module _ (over : Bool) (m : ℕ) (told : m ≡ first_fault k over s.misspelt g) where
+  module _ (over : Bool) (m : Option Breach) (told : m ≡ first_fault k over s g) where
     judged_is : (t u : Bool) → t ≡ u → first_fault k over t g ≡ first_fault k over u (gathered_at (rules_for k) f i)
     judged_is t u e = ap (λ (v : Bool). first_fault k over v g) e ∙ ap (first_fault k over u) x.attributes
 
     tag_fault_lem : m ≡ tag_fault_at f i k over
-    tag_fault_lem = told ∙ judged_is s.misspelt (said_at k f i).misspelt (ap (λ (t : Said). t.misspelt) x.text)
+    tag_fault_lem = told ∙ judged_is s (is_none (said_at k f i)) x.text
 
     -- with its whole text there is one too
-    pub refuses : (m ≡ 0 → ⊥) → (t : Bool) → t ≡ bad_in k s.misspelt (text_in f b) → (n : ℕ) → n ≡ first_fault k over t g
-        → (n ≡ fault_at f i k over) × (n ≡ 0 → ⊥)
+    pub refuses : (d : Breach) → m ≡ Some d → (t : Bool) → t ≡ bad_in k s (text_in f b) → (o : Option Breach)
+        → o ≡ first_fault k over t g → (a : Breach) → a ≡ unwrap_or o d → Some a ≡ fault_at f i k over
     unfolding text_at
-    refuses h t y n z =
+    refuses d h t y o z a w =
         let u : t ≡ bad_text k f i =
-        y ∙ (ap (λ (r : Said). bad_in k r.misspelt (text_in f b)) x.text
-        ∙ ap (λ (c : Body). bad_in k (said_at k f i).misspelt (text_in f c)) x.content) in
-        let e : n ≡ fault_at f i k over = z ∙ judged_is t (bad_text k f i) u in
-        (e, λ w. fault_kept f i k m (is_barred (kind_name k)) over refl tag_fault_lem h (sym e ∙ w))
+        y ∙ (ap (λ (r : Bool). bad_in k r (text_in f b)) x.text
+        ∙ ap (λ (c : Body). bad_in k (is_none (said_at k f i)) (text_in f c)) x.content) in
+        let e : o ≡ fault_at f i k over = z ∙ judged_is t (bad_text k f i) u in
+        some_is o d a (λ v. fault_kept f i k m (is_barred (kind_name k)) over refl tag_fault_lem (λ q. cc) (sym e ∙ v)) w ∙ e
 
-    module _ (z : m ≡ 0) (w a : Bool) (hw : w ≡ worded k) (ha : a ≡ stray (text_at f i)) where
-      text_fault : fault_at f i k over ≡ cond (not w && a) 6 0
+    module _ (z : m ≡ None) (w a : Bool) (hw : w ≡ worded k) (ha : a ≡ stray (text_at f i)) where
+      text_fault : fault_at f i k over ≡ cond (not w && a) (Some Misvalued) None
       text_fault =
           let t = fault_split f i k m (is_barred (kind_name k)) over refl tag_fault_lem z in
           t.1 ∙ rw (hw, ha) (fault_text f i k t.0)
 
-      pub stray_fault : not w && a ≡ true → 6 ≡ fault_at f i k over
+      pub stray_fault : not w && a ≡ true → Some Misvalued ≡ fault_at f i k over
       stray_fault t = sym (text_fault ∙ rw t)
 
-      pub no_fault : not w && a ≡ false → 0 ≡ fault_at f i k over
+      pub no_fault : not w && a ≡ false → None ≡ fault_at f i k over
       no_fault t = sym (text_fault ∙ rw t)
 
 -- behind a fault the words tell nothing
-pub refused_same : (w : Walk) (ms ms' : List ℕ) (n p : ℕ) → refused_found (found w ms) n p ≡ refused_found (found w ms') n p
+pub refused_same : (w : Walk) (ms ms' : List ℕ) (b : Breach) (p : ℕ) → refused_found (found w ms) b p ≡ refused_found (found w ms') b p
 unfolding found
-refused_same w ms ms' n p = refl
+refused_same w ms ms' b p = refl
 
 -- the ways through `visit_inside`
 module _ (f : List ℕ) (i left k : ℕ) (r : FoundSoFar) (b : Body) (e : b ≡ content_at f i) where
@@ -200,6 +219,6 @@ module _ (f : List ℕ) (root k : ℕ) (b : Bool) (e₁ : root ≡ root_at f) (e
   unfolding indexed
   whole_known t n v r x i p y z = z ∙ rw (y, x, p, e₂, e₁) (rw (root_carried ∙ t))
 
-  pub whole_other : b ≡ false → (r : Index) → r ≡ refused_index 3 root → r ≡ indexed f
+  pub whole_other : b ≡ false → (r : Index) → r ≡ Err (breach_at Rootless root) → r ≡ indexed f
   unfolding indexed
   whole_other t r z = z ∙ rw (e₁, root_carried ∙ t)

@@ -4,10 +4,9 @@ use native.Mathlib.Omega.{arith}
 use mathlib.Core.Path.{◌≡◌, refl, sym, ap, ◌∙◌, subst}
 use mathlib.Core.List.{List, [], ◌∷◌}
 use mathlib.Core.Bool.{Bool, true, false, ◌||◌, or_assoc, or_comm, or-false}
-use lib.Dec.{eqb}
+use Rattle.std.specs.Prelude.{Option, Some, None, Ok, Err, is_ok, option_map}
 use lib.ListN.{length}
 use lib.Seq.{slice}
-use borrow.Author.Tests.{ne_eqb, eqb-true, eqb-false}
 use Rattle.lists.proofs.Cases.{by_cases, le_or_lt}
 use Rattle.shape.specs.Shape.{Attribute, Node, node, Items}
 use Rattle.walk.specs.declared.Item.{Item}
@@ -20,14 +19,18 @@ use Rattle.schema.specs.Schema.{Parent, one_of, under, rules_of}
 use Rattle.schema.specs.SchemaCode.{kind_name, kind_under}
 use Rattle.schema.proofs.Laws.{carried_held, carried_not_barred, barred_not_carried, kind_is, kind_named, kind_carried, kind_barred}
 use Rattle.file_rules.specs.Element.{Known, own_faults, too_many}
+use Rattle.file_rules.specs.declared.Refusal.{Refusal}
+use Rattle.file_rules.specs.declared.Breach.{Breach}
+use Rattle.file_rules.specs.declared.Breach.TheVariants.{Uncarried}
+use Rattle.file_rules.specs.RefusalCode.{number_of, breach_at}
 use Rattle.element.specs.declared.Gathered.{Gathered}
 use Rattle.element.specs.ElementCode.{rules_for, nothing_gathered, gathered_at, gathered_list, own_fault, first_number}
 use Rattle.element.proofs.Laws.{fault_law, over_law, barred_law, gather_law, channel_law}
-use Rattle.document.specs.EntriesCode.{row_from, gathered_of, entry_of}
+use Rattle.document.specs.EntriesCode.{Entry, row_from, gathered_of, entry_of}
 use Rattle.document.specs.declared.Seen.{Seen}
 use Rattle.file_rules.specs.Document.{also_named, held, known_in, known_at, unmet, lacks}
-use Rattle.document.specs.DocumentCode.{Index, absorbed, absorb, entered, entry_at, refused_index, FoundSoFar, entered_found, refused_found, none_seen, marked, is_over, closed_walk, child_at, looked, first_fault, fault_at, visit_items, visit_body, visit_from}
-use Rattle.document.proofs.Absorbs.{absorb_append, absorb_still, absorb_none, absorb_enter, any_append}
+use Rattle.document.specs.DocumentCode.{Index, absorb, entered, entry_at, FoundSoFar, entered_found, refused_found, none_seen, marked, is_over, closed_walk, child_at, looked, first_fault, fault_at, visit_items, visit_body, visit_from}
+use Rattle.document.proofs.Absorbs.{absorb_append, absorb_still, absorb_none, absorb_enter, absorb_refuse, any_append}
 use Rattle.document.proofs.Seens.{SeenIs, seen_none, seen_on, over_is, lack_is}
 use Rattle.document.proofs.Turns.{visit_text, visit_remark, visit_child, visit_close}
 use Rattle.lists.specs.Lists.{any}
@@ -49,11 +52,20 @@ held_texted q earlier (b ∷ w) i = held_texted q earlier w i
 -- ---- v is what r becomes by the known elements ks; inside an element also u, whether it lacks something itself
 pub record Agrees (ks : List Known) (v r : FoundSoFar) : Type 0 where
   pub index : v.index ≡ absorb ks r.index
-  pub lacking : v.index.fault.number ≡ 0 → v.lacking ≡ (r.lacking || any lacks ks)
+  pub lacking : (es : List Entry) → v.index ≡ Ok es → v.lacking ≡ (r.lacking || any lacks ks)
 
 record AgreesIn (ks : List Known) (u : Bool) (v r : FoundSoFar) : Type 0 where
   pub index : v.index ≡ absorb ks r.index
-  pub lacking : v.index.fault.number ≡ 0 → v.lacking ≡ ((r.lacking || any lacks ks) || u)
+  pub lacking : (es : List Entry) → v.index ≡ Ok es → v.lacking ≡ ((r.lacking || any lacks ks) || u)
+
+-- an index has entries, or is refused; there is a fault, or none
+by_index : {A : Type 0} (x : Index) → ((es : List Entry) → x ≡ Ok es → A) → ((q : Refusal) → x ≡ Err q → A) → A
+by_index (Ok es) a b = a es refl
+by_index (Err q) a b = b q refl
+
+by_fault : {A : Type 0} (x : Option Breach) → (x ≡ None → A) → ((b : Breach) → x ≡ Some b → A) → A
+by_fault None a b = a refl
+by_fault (Some c) a b = b c refl
 
 abbrev pub name_in : Node → List ℕ
 name_in (node p n l i) = n
@@ -92,7 +104,7 @@ module _ (f : List ℕ) where
     unfolding closed_walk absorb any
     closes earlier s y r =
         let n = sym (or-false r.lacking) in
-        record { index = refl; lacking = λ z. rw (lack_is q earlier s y) (ap (λ (b : Bool). b || unmet Q earlier) n) }
+        record { index = refl; lacking = λ es z. rw (lack_is q earlier s y) (ap (λ (b : Bool). b || unmet Q earlier) n) }
 
     turn : (n j : ℕ) (i : Items) (e : ℕ) → length f < suc n + j
         → ((k : ℕ) (i : Items) → ContentStands f d k i e → length f < n + k → Turns n k i e) → (p : Item) → p ≡ walk.item_at f j
@@ -121,11 +133,11 @@ module _ (f : List ℕ) where
           index = a.index
               ∙ (ap (absorb (known_in Q c x.1)) g.index
               ∙ sym (absorb_append (known_at Q earlier x.0) (known_in Q c x.1) r.index));
-          lacking = λ z.
-              let w = absorb_none (known_in Q c x.1) v.index (ap (λ (m : Index). m.fault.number) (sym a.index) ∙ z) in
-              a.lacking z
+          lacking = λ es z.
+              let w = absorb_none (known_in Q c x.1) v.index es (sym a.index ∙ z) in
+              a.lacking es z
               ∙ rw (
-                g.lacking w,
+                g.lacking w.0 w.1,
                 any_append lacks (known_at Q earlier x.0) (known_in Q c x.1),
                 or_assoc r.lacking
                     (any lacks (known_at Q earlier x.0)) (any lacks (known_in Q c x.1)),
@@ -149,16 +161,18 @@ module _ (f : List ℕ) where
 
   -- ---- one element
   module _ (short : length f ≤ 32768) (d : ℕ) where
-    -- behind a fault nothing changes
-    past : (ks : List Known) (r : FoundSoFar) → (r.index.fault.number ≡ 0 → ⊥) → Agrees ks r r
-    past ks r h = record { index = sym (absorb_still ks r.index h); lacking = λ z. absurd (h z) }
+    -- behind a refusal nothing changes
+    past : (ks : List Known) (r : FoundSoFar) (q : Refusal) → r.index ≡ Err q → Agrees ks r r
+    past ks r q h = record { index = h ∙ sym (ap (absorb ks) h ∙ absorb_still ks q); lacking = λ es z. cc }
 
     -- a fault of its own
-    faulty : (k : Known) (ks : List Known) (r : FoundSoFar) (m : ℕ) → eqb r.index.fault.number 0 ≡ true → m ≡ first_number (own_faults k)
-        → (m ≡ 0 → ⊥) → Agrees (k ∷ ks) (refused_found r m k.place) r
-    unfolding absorb absorbed
-    faulty k ks r m t e h =
-        record { index = rw (t, ← e, ne_eqb m 0 h) (sym (absorb_still ks (refused_index m k.place) h)); lacking = λ z. absurd (h z) }
+    faulty : (k : Known) (ks : List Known) (r : FoundSoFar) (b : Breach) (es : List Entry) → r.index ≡ Ok es
+        → Some (number_of b) ≡ first_number (own_faults k) → Agrees (k ∷ ks) (refused_found r b k.place) r
+    unfolding absorb
+    faulty k ks r b es o e = record {
+      index = sym (ap (absorb ks) (absorb_refuse k r.index es o (number_of b) e) ∙ absorb_still ks (breach_at b k.place));
+      lacking = λ ds z. cc;
+    }
 
     module _ (deep : suc d ≤ 8)
         (go : (i : ℕ) (x : Node) (e : ℕ) → ElementAt f d i x e → (q : ℕ) (earlier : List (List ℕ)) (s : Seen) → SeenIs q earlier s
@@ -177,7 +191,10 @@ module _ (f : List ℕ) where
         named : kind_name (kind_under q n) ≡ n
         named = kind_named q n (carried_held (kind_name q) n c)
 
-        fault_first : fault_at f i (kind_under q n) (is_over q (kind_under q n) s) ≡ first_number (own_faults K)
+        abbrev own : Option Breach
+        own = fault_at f i (kind_under q n) (is_over q (kind_under q n) s)
+
+        fault_first : option_map number_of own ≡ first_number (own_faults K)
         unfolding first_fault own_fault
         fault_first =
             rw (kind_barred q n ∙ not_barred, over_is q earlier s z n c i l t)
@@ -198,36 +215,35 @@ module _ (f : List ℕ) where
             λ j. record { kind = a j; place = i; number = b j; row = w j }
 
         -- without a fault it is entered, and what it holds is visited
-        enters : eqb r.index.fault.number 0 ≡ true → first_number (own_faults K) ≡ 0 → (v : FoundSoFar)
+        enters : (es : List Entry) → r.index ≡ Ok es → first_number (own_faults K) ≡ None → (v : FoundSoFar)
             → AgreesIn (known_in (under (kind_name (kind_under q n))) [] t)
             (unmet (under (kind_name (kind_under q n))) (held (under (kind_name (kind_under q n))) [] t)) v
             (entered_found r (entry_at f i (kind_under q n)))
             → Agrees (K ∷ known_in (under n) [] t) v r
         unfolding absorb lacks any
-        enters o h v a =
+        enters es o h v a =
             let m = named in
             let b : AgreesIn (known_in (under n) [] t) (unmet (under n) (held (under n) [] t)) v
             (entered_found r (entry_at f i (kind_under q n))) = rw m at a in
             record {
               index = b.index
                   ∙ ap (absorb (known_in (under n) [] t))
-                  (ap (entered r.index) kept ∙ sym (absorb_enter K r.index o h));
-              lacking = λ g. b.lacking g
+                  (ap (entered r.index) kept ∙ sym (absorb_enter K r.index es o h));
+              lacking = λ ds g. b.lacking ds g
                   ∙ or_turn r.lacking (any lacks (known_in (under n) [] t)) (unmet (under n) (held (under n) [] t));
             }
 
         carried : Agrees (K ∷ known_in (under n) [] t) (visit_from f (suc d) i (kind_under q n) (is_over q (kind_under q n) s) r) r
         unfolding visit_from looked
         carried =
-            by_cases (eqb r.index.fault.number 0)
-            (λ o. rw (o, kind_carried q n ∙ c, fault_first)
-            (by_cases (eqb (first_number (own_faults K)) 0)
-            (λ h. rw h (enters o (eqb-true (first_number (own_faults K)) 0 h) _
+            by_index r.index
+            (λ es o. rw (ap is_ok o, kind_carried q n ∙ c)
+            (by_fault own
+            (λ h. rw h (enters es o (sym fault_first ∙ ap (option_map number_of) h) _
             (body d (omega arith) go (kind_under q n) t e (walk.content_at f i) (content_law f d i i n l t e y (walk.content_at f i) refl)
             (entered_found r (entry_at f i (kind_under q n))))))
-            (λ h. rw h (faulty K (known_in (under n) [] t) r (first_number (own_faults K)) o refl
-            (eqb-false (first_number (own_faults K)) 0 h)))))
-            (λ o. rw o (past (K ∷ known_in (under n) [] t) r (eqb-false r.index.fault.number 0 o)))
+            (λ b h. rw h (faulty K (known_in (under n) [] t) r b es o (ap (option_map number_of) (sym h) ∙ fault_first)))))
+            (λ p o. rw (ap is_ok o) (past (K ∷ known_in (under n) [] t) r p o))
 
       -- an element that is not carried
       barred : one_of (under (kind_name q)).barred n ≡ true
@@ -235,9 +251,9 @@ module _ (f : List ℕ) where
       unfolding visit_from looked first_fault
       barred b =
           rw (kind_carried q n ∙ barred_not_carried (kind_name q) n b, kind_barred q n ∙ b)
-          (by_cases (eqb r.index.fault.number 0)
-          (λ o. rw o (faulty K (known_in (under n) [] t) r 7 o (sym (barred_law K b)) (λ g. absurd (omega (arith, g)))))
-          (λ o. rw o (past (K ∷ known_in (under n) [] t) r (eqb-false r.index.fault.number 0 o))))
+          (by_index r.index
+          (λ es o. rw (ap is_ok o) (faulty K (known_in (under n) [] t) r Uncarried es o (sym (barred_law K b))))
+          (λ p o. rw (ap is_ok o) (past (K ∷ known_in (under n) [] t) r p o)))
 
       -- an element that is not known
       unknown : one_of (under (kind_name q)).carried n ≡ false → one_of (under (kind_name q)).barred n ≡ false
@@ -245,9 +261,9 @@ module _ (f : List ℕ) where
       unfolding visit_from looked absorb any
       unknown c b =
           rw (kind_carried q n ∙ c, kind_barred q n ∙ b)
-          (by_cases (eqb r.index.fault.number 0)
-          (λ o. rw o (record { index = refl; lacking = λ g. sym (or-false r.lacking) }))
-          (λ o. rw o (record { index = refl; lacking = λ g. sym (or-false r.lacking) })))
+          (by_cases (is_ok r.index)
+          (λ o. rw o (record { index = refl; lacking = λ es g. sym (or-false r.lacking) }))
+          (λ o. rw o (record { index = refl; lacking = λ es g. sym (or-false r.lacking) })))
 
       one : Agrees (known_at (under (kind_name q)) earlier (node i n l t))
           (visit_from f (suc d) i (child_at f i q) (is_over q (child_at f i q) s) r) r

@@ -5,23 +5,23 @@
 // May not touch: what the elements say together (names, channels, expressions): that is for the crates above.
 #![tactic(auto)]
 
-ghost use Rattle.std.specs.Prelude.{◌≡◌, ℕ, suc, ◌+◌, ◌≤◌, ◌<◌, List, ◌++◌, length, take};
-ghost use Rattle.shape.specs.declared.Shape.TheVariants.{Whole};
+ghost use Rattle.std.specs.Prelude.{◌≡◌, ℕ, suc, ◌+◌, ◌≤◌, ◌<◌, List, ◌++◌, length, take, Ok};
+ghost use Rattle.file_rules.specs.RefusalCode.{breach_at};
 ghost use Rattle.shape.specs.Shape.{Shaped};
 ghost use Rattle.walk.specs.WalkCode.{name_at, content_at, skipped};
 ghost use Rattle.schema.specs.SchemaCode.{kind_count, attribute_count};
 ghost use Rattle.document.specs.EntriesCode.{entry_room};
-ghost use Rattle.document.specs.DocumentCode.{refused_index, refused_found, one_more, marked, is_over, lacks_some, closed_walk, child_at, looked, first_fault, visit_body, visit_from, index_at, none_found, indexed, entry_by, found, Sound, Ready, VisitedIs, InsideIs, EnteredIs, Holds, IndexedIn};
+ghost use Rattle.document.specs.DocumentCode.{refused_found, one_more, marked, is_over, lacks_some, closed_walk, child_at, looked, first_fault, visit_body, visit_from, index_at, none_found, indexed, entry_by, found, Sound, Ready, VisitedIs, InsideIs, EnteredIs, Holds, IndexedIn};
 ghost use Rattle.lists.specs.FillsCode.{Filled};
 
-use element::{Gathered, faults, fields};
-use file_rules::Refusal;
+use element::{Gathered, Tag, faults, fields};
+use file_rules::{Breach, Refusal};
 use lists::bits;
 use schema::attributes::ATTRIBUTES;
 use schema::{Times, attributes, kinds};
-use shape::Shape;
+use shape::Unshaped;
 use text::runs;
-use walk::{Body, Item, elements, items, tags};
+use walk::{Body, Item, Part, elements, items, tags};
 
 // The words of a row: which attributes there are, as a set, and their numbers.
 pub const ROW: usize = ATTRIBUTES + 2;
@@ -32,19 +32,12 @@ const MOST: usize = 382 * 3 + 86 * ROW;
 // So much room that any entry fits behind these.
 pub const ROOM: usize = MOST + ROW + 3;
 
-// The first refusal (then there are no entries), and where the entries end.
-#[derive(Clone, Copy)]
-pub struct Found {
-    pub fault: Refusal,
-    pub end: usize,
-}
-
-// The walk so far: where it stands, the first refusal, where the entries end, and whether a required element lacks.
+// The walk so far: where it stands, where the entries end or the first refusal, and whether a required element lacks. The words of the entries are
+// no field: they are the caller's (fixed memory), and behind a refusal nothing is said of them, so that no invariant would hold of both.
 #[derive(Clone, Copy)]
 pub struct Walk {
     pub at: usize,
-    pub fault: Refusal,
-    pub end: usize,
+    pub end: Result<usize, Refusal>,
     pub lacking: bool,
 }
 
@@ -69,12 +62,13 @@ pub struct Named {
     pub to: usize,
 }
 
-fn refuse(number: u32, place: usize) -> Found
-    ensures { (ms : List ℕ) → Holds result ms (refused_index number place) }
+// A refusal by the paper's number.
+fn refusal(breach: Breach, place: usize) -> Refusal
+    ensures { result ≡ breach_at breach place }
 {
-    Found {
-        fault: Refusal { number, place },
-        end: 0,
+    Refusal {
+        number: breach as u32,
+        place,
     }
 }
 
@@ -83,12 +77,9 @@ fn put_values(values: [u32; ATTRIBUTES], at: usize, words: &mut [u32]) -> usize
     requires { at + attribute_count ≤ length words.old }
     ensures { Filled (take at words.old ++ values) words.old words.new result }
 {
-    let mut a = 0;
-    while a < ATTRIBUTES {
-        words[at + a] = values[a];
-        a += 1;
-    }
-    at + a
+    let end = at + ATTRIBUTES;
+    words[at..end].copy_from_slice(&values[..]);
+    end
 }
 
 // The element where the walk stands is entered, if there is room for it: its kind, its place, the number in its text, and its row.
@@ -96,43 +87,45 @@ fn enter(walk: Walk, kind: usize, number: u32, g: Gathered, words: &mut [u32]) -
     requires { (length words.old ≡ entry_room) × (walk.at ≤ 32768) × (kind < kind_count) × Sound walk.end words.old }
     ensures { EnteredIs (found walk words.old) (entry_by kind walk.at number g) walk.at result words.new }
 {
-    let at = walk.end;
-    let mut next = walk;
+    let Ok(at) = walk.end else {
+        return walk;
+    };
     if MOST < at {
-        return next;
+        return walk;
     }
     words[at] = kind as u32;
     words[at + 1] = walk.at as u32;
     words[at + 2] = number;
     if attributes::is_ruled(kind) {
-        let values = g.values;
         words[at + 3] = (g.has % 4294967296) as u32;
         words[at + 4] = (g.has / 4294967296) as u32;
-        next.end = put_values(values, at + 5, words);
-        return next;
+        let end = put_values(g.values, at + 5, words);
+        return Walk {
+            end: Ok(end),
+            ..walk
+        };
     }
-    next.end = at + 3;
-    next
+    Walk {
+        end: Ok(at + 3),
+        ..walk
+    }
 }
 
-// Behind a fault there are no entries.
-fn refused(walk: Walk, number: u32, place: usize) -> Walk
-    ensures { ((ms : List ℕ) → found result ms ≡ refused_found (found walk ms) number place) × (result.at ≡ walk.at) × (result.end ≡ 0) }
+// Behind a refusal there are no entries.
+fn refused(walk: Walk, breach: Breach, place: usize) -> Walk
+    ensures { ((ms : List ℕ) → found result ms ≡ refused_found (found walk ms) breach place) × (result.at ≡ walk.at) × (result.end ≡ Err (breach_at breach place)) }
 {
+    let first = refusal(breach, place);
     Walk {
-        at: walk.at,
-        fault: Refusal { number, place },
-        end: 0,
-        lacking: walk.lacking,
+        end: Err(first),
+        ..walk
     }
 }
 
 fn move_to(walk: Walk, at: usize) -> Walk
     ensures { ((ms : List ℕ) → found result ms ≡ found walk ms) × (result.at ≡ at) × (result.end ≡ walk.end) }
 {
-    let mut next = walk;
-    next.at = at;
-    next
+    Walk { at, ..walk }
 }
 
 // Beyond every limit the count stands still.
@@ -160,8 +153,7 @@ fn is_over(parent: usize, kind: usize, seen: Seen) -> bool
     let limit = kinds::times_of(parent);
     match limit {
         Times::Once => bits::has_bit(seen.kinds, kind),
-        Times::OneTo(m) => (m as usize) <= seen.count,
-        Times::UpTo(m) => (m as usize) <= seen.count,
+        Times::OneTo(m) | Times::UpTo(m) => (m as usize) <= seen.count,
     }
 }
 
@@ -184,13 +176,11 @@ fn lacks_some(kind: usize, seen: Seen) -> bool
 fn close(walk: Walk, kind: usize, seen: Seen, end: usize, stray: bool) -> Inside
     ensures { ((ms : List ℕ) → found result.walk ms ≡ closed_walk (found walk ms) kind seen) × (result.walk.at ≡ end) × (result.stray ≡ stray) × (result.walk.end ≡ walk.end) }
 {
-    let lacks = lacks_some(kind, seen);
-    let fault = walk.fault;
+    let lacking = walk.lacking | lacks_some(kind, seen);
     let closed = Walk {
         at: end,
-        fault,
-        end: walk.end,
-        lacking: walk.lacking | lacks,
+        lacking,
+        ..walk
     };
     Inside {
         walk: closed,
@@ -199,35 +189,32 @@ fn close(walk: Walk, kind: usize, seen: Seen, end: usize, stray: bool) -> Inside
 }
 
 // The element at j, under an element of the kind `parent`.
-fn child_at(file: &[u8], j: usize, parent: usize) -> Named
+pub fn child_at(file: &[u8], j: usize, parent: usize) -> Named
     ensures { (result.kind ≡ child_at file.now j parent) × (result.to ≡ (name_at file.now j).to) }
 {
-    let name = tags::name_of(file, j);
-    let from = name.from;
-    let to = name.to;
+    let Part { from, to } = tags::name_of(file, j);
     let kind = kinds::kind_under(parent, &file[from..to]);
     Named { kind, to }
 }
 
-// The first of 4, 7 for its kind, 5, 6, 7 for a value, by its attributes and whether its text is bad; 0 if there is none.
-fn fault_of(kind: usize, over: bool, g: Gathered, bad: bool) -> u32
+// The first of 4, 7 for its kind, 5, 6, 7 for a value, by its attributes and whether its text is bad.
+fn fault_of(kind: usize, over: bool, g: Gathered, bad: bool) -> Option<Breach>
     ensures { result ≡ first_fault kind over bad g }
 {
     if kinds::is_barred(kind) {
-        return 7;
+        return Some(Breach::Uncarried);
     }
     if over {
-        return 4;
+        return Some(Breach::Surplus);
     }
     faults::verdict_of(kind, g, bad)
 }
 
-// Is an element of that kind looked at? Not behind a fault.
+// Is an element of that kind looked at? Not behind a refusal.
 fn is_looked_at(walk: Walk, kind: usize) -> bool
     ensures { (ms : List ℕ) → result ≡ looked (found walk ms) kind }
 {
-    let fault = walk.fault;
-    (fault.number == 0) & (kinds::is_carried(kind) | kinds::is_barred(kind))
+    walk.end.is_ok() & (kinds::is_carried(kind) | kinds::is_barred(kind))
 }
 
 // Over the element where the walk stands.
@@ -241,7 +228,7 @@ fn pass(file: &[u8], walk: Walk) -> Walk
 // The element where the walk stands, so named, in which elements nest at most `left` deep, and all known elements in it. Stray text shows only behind it.
 #[cycle(visit_visit_inside)]
 fn visit(file: &[u8], name: Named, over: bool, left: usize, walk: Walk, words: &mut [u32]) -> Walk
-    requires { Ready file.now left walk.at words.old × Sound walk.end words.old × (name.to ≡ (name_at file.now walk.at).to) }
+    requires { Ready file.now left walk words.old × (name.to ≡ (name_at file.now walk.at).to) }
     ensures { VisitedIs file.now walk.at (visit_from file.now left walk.at name.kind over (found walk words.old)) result words.new }
 {
     let i = walk.at;
@@ -249,21 +236,21 @@ fn visit(file: &[u8], name: Named, over: bool, left: usize, walk: Walk, words: &
     if !is_looked_at(walk, kind) {
         return pass(file, walk);
     }
-    let tag = element::gather(file, name.to, kind);
-    let gathered = tag.gathered;
-    let body = tag.body;
+    let Tag { gathered, body } = element::gather(file, name.to, kind);
     let said = fields::read_text(file, kind, body);
-    if fault_of(kind, over, gathered, said.misspelt) != 0 {
-        let bad = faults::bad_text(file, kind, body, said.misspelt);
-        let first = fault_of(kind, over, gathered, bad);
+    let misspelt = said.is_none();
+    let number = said.unwrap_or(0);
+    if let Some(told) = fault_of(kind, over, gathered, misspelt) {
+        let bad = faults::bad_text(file, kind, body, misspelt);
+        let first = fault_of(kind, over, gathered, bad).unwrap_or(told);
         let faulty = refused(walk, first, i);
         return pass(file, faulty);
     }
-    let entered = enter(walk, kind, said.number, gathered, words);
+    let entered = enter(walk, kind, number, gathered, words);
     let inside = visit_inside(file, kind, body, left - 1, entered, words);
     let all = inside.walk;
     if !faults::is_worded(kind) & inside.stray {
-        let strayed = refused(walk, 6, i);
+        let strayed = refused(walk, Breach::Misvalued, i);
         return move_to(strayed, all.at);
     }
     all
@@ -280,7 +267,7 @@ fn visit_inside(
     entered: Walk,
     words: &mut [u32],
 ) -> Inside
-    requires { Ready file.now (suc left) entered.at words.old × Sound entered.end words.old × (body ≡ content_at file.now entered.at) }
+    requires { Ready file.now (suc left) entered words.old × (body ≡ content_at file.now entered.at) }
     ensures { InsideIs file.now entered.at (visit_body (visit_from file.now left) file.now kind (found entered words.old) (content_at file.now entered.at)) result words.new }
 {
     let i = entered.at;
@@ -291,6 +278,7 @@ fn visit_inside(
             let mut all = move_to(entered, o);
             let mut seen = Seen { count: 0, kinds: 0 };
             let mut stray = false;
+            // No `for`: each item says where the next one begins.
             while all.at < file.len() {
                 all.at = runs::blanks_end(file, all.at);
                 match items::item_at(file, all.at) {
@@ -321,36 +309,29 @@ fn visit_inside(
 }
 
 // A required element that lacks comes after every fault of an element.
-fn settle(walk: Walk, root: usize) -> Found
+fn settle(walk: Walk, root: usize) -> Result<usize, Refusal>
     ensures { (ms : List ℕ) → Sound walk.end ms → Holds result ms (index_at root (found walk ms)) }
 {
-    let fault = walk.fault;
-    if (fault.number == 0) & walk.lacking {
-        return refuse(8, root);
+    let end = walk.end?;
+    if walk.lacking {
+        return Err(refusal(Breach::Lacking, root));
     }
-    Found {
-        fault,
-        end: walk.end,
-    }
+    Ok(end)
 }
 
 fn none_found(at: usize) -> Walk
-    ensures { ((ms : List ℕ) → found result ms ≡ none_found) × (result.at ≡ at) × (result.end ≡ 0) }
+    ensures { ((ms : List ℕ) → found result ms ≡ none_found) × (result.at ≡ at) × (result.end ≡ Ok 0) }
 {
     Walk {
         at,
-        fault: Refusal {
-            number: 0,
-            place: 0,
-        },
-        end: 0,
+        end: Ok(0),
         lacking: false,
     }
 }
 
 // The index of a file of good shape.
-fn index_whole(file: &[u8], words: &mut [u32]) -> Found
-    requires { Shaped file.now Whole × (length words.old ≡ entry_room) }
+fn index_whole(file: &[u8], words: &mut [u32]) -> Result<usize, Refusal>
+    requires { Shaped file.now (Ok tt) × (length words.old ≡ entry_room) }
     ensures { Holds result words.new (indexed file.now) }
 {
     let root = items::root_at(file);
@@ -359,16 +340,16 @@ fn index_whole(file: &[u8], words: &mut [u32]) -> Found
         let all = visit(file, name, false, 8, none_found(root), words);
         return settle(all, root);
     }
-    refuse(3, root)
+    Err(refusal(Breach::Rootless, root))
 }
 
-// The known elements of a file at the front of the words, or the first of its refusals 1 to 8. Behind them nothing is said of the words.
-pub fn read_index(file: &[u8], words: &mut [u32; ROOM]) -> Found
+// The known elements of a file at the front of the words, and where they end, or the first of its refusals 1 to 8. Behind them nothing is said of the words.
+pub fn read_index(file: &[u8], words: &mut [u32; ROOM]) -> Result<usize, Refusal>
     ensures { IndexedIn file.now result words.new }
 {
     match xml::read_shape(file) {
-        Shape::TooLong => refuse(1, 32768),
-        Shape::Broken(p) => refuse(2, p),
-        Shape::Whole => index_whole(file, words),
+        Ok(()) => index_whole(file, words),
+        Err(Unshaped::TooLong) => Err(refusal(Breach::Long, 32768)),
+        Err(Unshaped::Broken(p)) => Err(refusal(Breach::Shapeless, p)),
     }
 }

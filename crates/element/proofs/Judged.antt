@@ -1,16 +1,19 @@
 -- What one attribute makes of what is gathered, by its number.
-use Prim.Native.Nat.{ℕ, ◌≤◌, ◌<◌}
+use Prim.Native.Nat.{ℕ, ◌<◌}
 use native.Mathlib.Omega.{arith}
 use mathlib.Core.Path.{◌≡◌, refl, sym, ap, ◌∙◌}
 use mathlib.Core.List.{List, [], ◌∷◌}
-use mathlib.Core.Bool.{Bool, true, false, cond, ◌||◌}
-use lib.Dec.{leb, ltb}
-use borrow.Author.Tests.{lt-ltb, lt-leb}
+use mathlib.Core.Bool.{Bool, true, false, cond}
+use lib.Dec.{ltb}
+use borrow.Author.Tests.{lt-ltb}
 use Rattle.text.specs.Texts.{bytes, same}
 use Rattle.lists.specs.BitsCode.{has_bit, with_bit}
-use Rattle.lists.proofs.Cases.{by_cases, le_or_lt}
+use Rattle.lists.proofs.Cases.{by_cases}
 use Rattle.values.specs.declared.Sort.{Sort}
-use Rattle.values.specs.declared.Worth.{Worth}
+use Rattle.std.specs.Prelude.{Result, Some, None}
+use Rattle.std.specs.Option.{unwrap_or}
+use Rattle.std.proofs.lemmas.Option.{none-some}
+use Rattle.values.specs.declared.Unfit.{Unfit}
 use Rattle.values.specs.Values.{worth_of}
 use Rattle.shape.specs.Shape.{Attribute}
 use Rattle.schema.specs.Schema.{Rule}
@@ -45,25 +48,26 @@ pub put_bit : (a h r : ℕ) → a < attribute_count → r ≡ cond (ltb a 64) (w
 put_bit a h r l e = e ∙ ap (λ (b : Bool). cond b (with_bit h a) h) (lt-ltb a 64 (omega arith))
 
 -- the code's way: the attribute's number first, if the element has it
-module _ (kind : ℕ) (g : Gathered) (n v : List ℕ) (a : ℕ) (q : a ≡ attribute_in kind n) where
+module _ (kind : ℕ) (g : Gathered) (n v : List ℕ) where
   abbrev here : Attribute
   here = record { name = n; value = v }
 
-  judge_unknown : attribute_count ≤ a → unfitted g ≡ judged (rules_for kind) g here
+  pub judge_unknown : None ≡ attribute_in kind n → unfitted g ≡ judged (rules_for kind) g here
   unfolding attribute_in
-  judge_unknown h =
-      by_cases (knows (rules_for kind) n)
-      (λ t. absurd (let w : a ≡ attribute_of n = rw t at q in omega (arith, number_low n (listed (kind_name kind) n t))))
-      (λ t. sym (judged_unknown (rules_for kind) g here t))
+  judge_unknown q =
+      by_cases (knows (rules_for kind) n) (λ t. absurd (none-some _ (rw t at q))) (λ t. sym (judged_unknown (rules_for kind) g here t))
 
-  module _ (h : a < attribute_count) where
+  module _ (a : ℕ) (q : Some a ≡ attribute_in kind n) where
     known : knows (rules_for kind) n ≡ true
     unfolding attribute_in
-    known = by_cases (knows (rules_for kind) n) (λ t. t) (λ t. absurd (let w : a ≡ attribute_count = rw t at q in omega arith))
+    known = by_cases (knows (rules_for kind) n) (λ t. t) (λ t. absurd (none-some a (sym (rw t at q))))
 
     number : a ≡ attribute_of n
     unfolding attribute_in
-    number = rw known at q
+    number = ap (λ r. unwrap_or r 0) (rw known at q)
+
+    pub known_low : a < attribute_count
+    known_low = rw number (number_low n (listed (kind_name kind) n known))
 
     -- its rule asks for what every rule of that attribute does
     own_sort : sort_of (attribute_name a) ≡ sort_in (rules_for kind) n
@@ -74,16 +78,12 @@ module _ (kind : ℕ) (g : Gathered) (n v : List ℕ) (a : ℕ) (q : a ≡ attri
       held : b ≡ has_bit g.has (attribute_of n)
       held = e ∙ ap (has_bit g.has) number
 
-      judge_again : b ≡ true → unfitted g ≡ judged (rules_for kind) g here
+      pub judge_again : b ≡ true → unfitted g ≡ judged (rules_for kind) g here
       judge_again t = sym (judged_again (rules_for kind) g here known (sym held ∙ t))
 
-      pub judge_fit : b ≡ false → (s : Sort) (w : Worth) → s ≡ sort_of (attribute_name a) → w ≡ worth_of s v
+      pub judge_fit : b ≡ false → (s : Sort) (w : Result ℕ Unfit) → s ≡ sort_of (attribute_name a) → w ≡ worth_of s v
           → put_worth g a w ≡ judged (rules_for kind) g here
       judge_fit t s w x y =
           sym (judged_fit (rules_for kind) g here known (sym held ∙ t)
           ∙ (ap (λ (i : ℕ). put_worth g i (worth_by (rules_for kind) here)) (sym number)
           ∙ ap (put_worth g a) (worth_by_lem (rules_for kind) n v ∙ (ap (λ (z : Sort). worth_of z v) (sym (x ∙ own_sort)) ∙ sym y))))
-
-  pub judge_unfit : (b : Bool) → b ≡ has_bit g.has a → (leb attribute_count a || b) ≡ true → unfitted g ≡ judged (rules_for kind) g here
-  judge_unfit b e t =
-      le_or_lt attribute_count a judge_unknown (λ h. judge_again h b e (ap (λ (c : Bool). c || b) (sym (lt-leb attribute_count a h)) ∙ t))

@@ -25,6 +25,12 @@ Last (TagPart.Open o) = Unit {0}
 Last (TagPart.Empty e) = Unit {0}
 Last TagPart.Broken = Unit {0}
 
+pub last_of : (p : TagPart) → ((a e c k : ℕ) → p ≡ TagPart.Attribute a e c k → ⊥) → Last p
+last_of (TagPart.Attribute a e c k) h = h a e c k refl
+last_of (TagPart.Open o) h = tt
+last_of (TagPart.Empty e) h = tt
+last_of TagPart.Broken h = tt
+
 -- the bytes that code takes by `[a..e]`
 abbrev part : List ℕ → ℕ → ℕ → List ℕ
 part f a e = take (e - a) (drop a f)

@@ -11,8 +11,7 @@ use Rattle.text.proofs.Equal.{same_self, same_equal}
 use Rattle.lists.specs.Lists.{any, Every}
 use Rattle.lists.proofs.Cases.{by_cases}
 use Rattle.lists.proofs.Parts.{and_left, and_right, neither}
-use Rattle.values.specs.declared.Number.{Number}
-use Rattle.values.specs.declared.Number.TheVariants.{Value, Nothing}
+use Rattle.std.specs.Prelude.{Option, Some, None}
 use Rattle.values.specs.declared.Sort.{Sort}
 use Rattle.values.specs.declared.Sort.TheVariants.{Numeric, Timeout}
 use Rattle.values.specs.Values.{ranged, worth_of}
@@ -27,10 +26,10 @@ use Rattle.file_rules.specs.Element.{Known, worth_by, is_bad, is_not_carried, go
 use Rattle.element.proofs.Laws.{Clean}
 
 -- ---- a value that is good
-ranged_good : (lo hi most : ℕ) (n : Number) → is_bad (ranged lo hi most n) ≡ false → is_not_carried (ranged lo hi most n) ≡ false
-    → n ≡ Value (good_of (ranged lo hi most n))
-ranged_good lo hi most Nothing b c = absurd (true≢false b)
-ranged_good lo hi most (Value v) b c =
+ranged_good : (lo hi most : ℕ) (n : Option ℕ) → is_bad (ranged lo hi most n) ≡ false → is_not_carried (ranged lo hi most n) ≡ false
+    → n ≡ Some (good_of (ranged lo hi most n))
+ranged_good lo hi most None b c = absurd (true≢false b)
+ranged_good lo hi most (Some v) b c =
     by_cases (leb lo v && leb v hi)
     (λ t. by_cases (leb v most) (λ u. rw (t, u)) (λ u. absurd (true≢false (rw (t, u) at c))))
     (λ t. absurd (true≢false (rw t at b)))
@@ -98,9 +97,9 @@ whole_values k c =
     })
 
 -- ---- the text of a CHANNEL
-ranged_carried : (lo hi : ℕ) (n : Number) → is_not_carried (ranged lo hi hi n) ≡ false
-ranged_carried lo hi Nothing = refl
-ranged_carried lo hi (Value v) =
+ranged_carried : (lo hi : ℕ) (n : Option ℕ) → is_not_carried (ranged lo hi hi n) ≡ false
+ranged_carried lo hi None = refl
+ranged_carried lo hi (Some v) =
     by_cases (leb lo v && leb v hi) (λ t. rw (t, and_right (leb lo v) (leb v hi) t)) (λ t. rw t)
 
 pub whole_channel : (k : Known) → Clean k → same k.name (bytes "CHANNEL") ≡ true → IsNumber (text_of k) (good_of (channel_of k))

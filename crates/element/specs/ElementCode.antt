@@ -1,9 +1,10 @@
 -- What the functions answer, for every input. Code-shaped; proofs/Laws.antt ties it to the definitions. Nothing here has to be believed.
-use Rattle.std.specs.Prelude.{ℕ, zero, suc, ◌+◌, List, [], ◌∷◌, map, Bool, true, false, not, cond, ◌&&◌, ◌||◌, ltb, eqb, length, get_or, replicate, set, take}
+use Rattle.std.specs.Prelude.{ℕ, zero, suc, ◌+◌, List, [], ◌∷◌, map, Bool, true, false, not, cond, ◌&&◌, ◌||◌, ltb, eqb, length, get_or, replicate, set, take, Option, Some, None, is_none, Result}
+use Rattle.std.specs.Bool.{then_some}
 use Prim.Native.String.{String}
 use Rattle.std.proofs.Math.Seq.{slice}
 use Rattle.text.specs.Texts.{bytes, same}
-use Rattle.values.specs.declared.Worth.{Worth}
+use Rattle.values.specs.declared.Unfit.{Unfit}
 use Rattle.values.specs.Values.{worth_of}
 use Rattle.shape.specs.Shape.{Attribute}
 use Rattle.walk.specs.declared.TagPart.{TagPart}
@@ -14,8 +15,9 @@ use Rattle.shape.specs.Text.{trimmed}
 use Rattle.schema.specs.Schema.{Rule, ◌to◌, rules_of}
 use Rattle.schema.specs.SchemaCode.{attribute_count, kind_name, attribute_name, attribute_of, knows, demands}
 use Rattle.file_rules.specs.Element.{worth_by, is_bad, is_not_carried, good_of, Fault}
+use Rattle.file_rules.specs.declared.Breach.{Breach}
+use Rattle.file_rules.specs.declared.Breach.TheVariants.{Misfit, Misvalued, Uncarried}
 use Rattle.element.specs.declared.Gathered.{Gathered}
-use Rattle.element.specs.declared.fields.Said.{Said}
 use Rattle.lists.specs.Lists.{any}
 use Rattle.lists.specs.BitsCode.{upto, has_bit, with_bit}
 
@@ -23,7 +25,7 @@ use Rattle.lists.specs.BitsCode.{upto, has_bit, with_bit}
 unfoldable pub nothing_gathered : Gathered
 nothing_gathered = record { five = false; six = false; seven = false; has = 0; values = replicate attribute_count 0 }
 
-abbrev pub put_worth : Gathered → ℕ → Worth → Gathered
+abbrev pub put_worth : Gathered → ℕ → Result ℕ Unfit → Gathered
 put_worth g a w =
     record {
       five = g.five;
@@ -114,21 +116,21 @@ short_in f b = trimmed (take 32768 (walk.text_in f b))
 abbrev pub short_text : List ℕ → ℕ → List ℕ
 short_text f i = trimmed (take 32768 (walk.text_at f i))
 
--- what a text says as a channel, or as the version that is carried
-abbrev pub worth_said : Worth → Said
-worth_said w = record { misspelt = is_bad w; number = good_of w }
+-- what a text says as a channel, and as the version that is carried: its number (0 for a version); none, if it is misspelt
+abbrev pub worth_said : Result ℕ Unfit → Option ℕ
+worth_said w = cond (is_bad w) None (Some (good_of w))
 
-abbrev pub said_as : Bool → List ℕ → Said
-said_as channel t = cond channel (worth_said (worth_of (0 to 4) t)) (record { misspelt = not (same t (bytes "2.0")); number = 0 })
+abbrev pub channel_said : List ℕ → Option ℕ
+channel_said t = worth_said (worth_of (0 to 4) t)
+
+abbrev pub version_said : List ℕ → Option ℕ
+version_said t = then_some {T = ℕ} (same t (bytes "2.0")) 0
 
 -- the same in an element of the kind; stray text aside
-unfoldable pub said : ℕ → List ℕ → Said
-said kind t = record {
-  misspelt = cond (is_kind kind "VERSION") (not (same t (bytes "2.0"))) (cond (is_kind kind "CHANNEL") (is_bad (worth_of (0 to 4) t)) false);
-  number = cond (is_kind kind "CHANNEL") (good_of (worth_of (0 to 4) t)) 0;
-}
+unfoldable pub said : ℕ → List ℕ → Option ℕ
+said kind t = cond (is_kind kind "VERSION") (version_said t) (cond (is_kind kind "CHANNEL") (channel_said t) (Some 0))
 
-abbrev pub said_at : ℕ → List ℕ → ℕ → Said
+abbrev pub said_at : ℕ → List ℕ → ℕ → Option ℕ
 said_at kind f i = said kind (short_text f i)
 
 -- the kinds that read a text of their own; in every other only blanks may stand
@@ -140,24 +142,25 @@ abbrev pub bad_in : ℕ → Bool → List ℕ → Bool
 bad_in kind misspelt t = misspelt || (not (worded kind) && walk.stray t)
 
 abbrev pub bad_text : ℕ → List ℕ → ℕ → Bool
-bad_text kind f i = bad_in kind (said_at kind f i).misspelt (walk.text_at f i)
+bad_text kind f i = bad_in kind (is_none (said_at kind f i)) (walk.text_at f i)
 
--- the first of 5, 6, 7 for a value, or 0
-unfoldable pub verdict : List Rule → Bool → Gathered → ℕ
+-- the first of 5, 6, 7 for a value
+unfoldable pub verdict : List Rule → Bool → Gathered → Option Breach
 verdict rs t g =
-    cond (g.five || lacking rs g.has) 5 (cond (g.six || bounds_crossed g.has g.values || t) 6 (cond g.seven 7 0))
+    cond (g.five || lacking rs g.has) (Some Misfit)
+    (cond (g.six || bounds_crossed g.has g.values || t) (Some Misvalued) (cond g.seven (Some Uncarried) None))
 
-unfoldable pub own_fault : ℕ → List ℕ → ℕ → ℕ
+unfoldable pub own_fault : ℕ → List ℕ → ℕ → Option Breach
 own_fault kind f i = verdict (rules_for kind) (bad_text kind f i) (gathered_at (rules_for kind) f i)
 
 -- the same, stray text aside
-unfoldable pub tag_fault : ℕ → List ℕ → ℕ → ℕ
-tag_fault kind f i = verdict (rules_for kind) (said_at kind f i).misspelt (gathered_at (rules_for kind) f i)
+unfoldable pub tag_fault : ℕ → List ℕ → ℕ → Option Breach
+tag_fault kind f i = verdict (rules_for kind) (is_none (said_at kind f i)) (gathered_at (rules_for kind) f i)
 
--- the number of the first fault, or 0
-unfoldable pub first_number : List Fault → ℕ
-first_number [] = 0
-first_number (x ∷ l) = x.number
+-- the number of the first fault
+unfoldable pub first_number : List Fault → Option ℕ
+first_number [] = None
+first_number (x ∷ l) = Some x.number
 
 -- the value of the first attribute n, as a part of the file; nothing at 0 if there is none
 unfoldable pub value_in : List ℕ → List ℕ → List Placed → Part

@@ -6,10 +6,10 @@ ghost use Rattle.walk.specs.WalkCode.{text_in};
 ghost use Rattle.element.specs.ElementCode.{rules_for, lacking, bounds_crossed, worded, bad_in, verdict};
 
 use crate::Gathered;
+use file_rules::Breach;
 use lists::bits;
 use schema::attributes::{ATTRIBUTES, CAN_EXT, DLC, DLC_MIN, MSGID, MSGID_MIN};
 use schema::{attributes, kinds};
-use values::{BAD_VALUE, NOT_CARRIED};
 use walk::{Body, texts};
 
 const LAST_STANDARD: u32 = 2047;
@@ -38,12 +38,7 @@ fn bounds_crossed(has: u64, v: [u32; ATTRIBUTES]) -> bool
 pub fn is_worded(kind: usize) -> bool
     ensures { result ≡ worded kind }
 {
-    match kind {
-        kinds::VERSION => true,
-        kinds::CHANNEL => true,
-        kinds::EXPRESSION => true,
-        _ => false,
-    }
+    matches!(kind, kinds::VERSION | kinds::CHANNEL | kinds::EXPRESSION)
 }
 
 // Has an element of the kind a text that it may not have? Whether one that is read for its value is misspelt, is known.
@@ -54,20 +49,18 @@ pub fn bad_text(file: &[u8], kind: usize, body: Body, misspelt: bool) -> bool
     misspelt | (!is_worded(kind) & texts::has_text(file, o))
 }
 
-// The first of 5, 6, 7 for a value, by the attributes and whether the text is bad; 0 if there is none.
-pub fn verdict_of(kind: usize, g: Gathered, bad: bool) -> u32
+// The first of 5, 6, 7 for a value, by the attributes and whether the text is bad.
+pub fn verdict_of(kind: usize, g: Gathered, bad: bool) -> Option<Breach>
     ensures { result ≡ verdict (rules_for kind) bad g }
 {
-    let has = g.has;
-    let values = g.values;
-    if g.five | lacks(kind, has) {
-        return 5;
+    if g.five | lacks(kind, g.has) {
+        return Some(Breach::Misfit);
     }
-    if g.six | bounds_crossed(has, values) | bad {
-        return BAD_VALUE;
+    if g.six | bounds_crossed(g.has, g.values) | bad {
+        return Some(Breach::Misvalued);
     }
     if g.seven {
-        return NOT_CARRIED;
+        return Some(Breach::Uncarried);
     }
-    0
+    None
 }

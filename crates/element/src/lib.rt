@@ -18,11 +18,12 @@ pub mod fields;
 use lists::bits;
 use schema::attributes;
 use schema::attributes::ATTRIBUTES;
-use values::{BAD_VALUE, NOT_CARRIED, Worth, sorts};
+use values::{Unfit, sorts};
 use walk::{Body, TagPart, tags};
 
 // What the attributes of an element say: one is unknown or repeated (5), one has a bad value (6), one is not carried (7); by their numbers,
-// which are there, as a set, and what they are worth.
+// which are there, as a set, and what they are worth. Three flags and no one fault: what lacks, the bounds and the text come between them. The set stands
+// beside the values, since it is asked whole for what lacks, and goes into an entry as two words.
 #[derive(Clone, Copy)]
 pub struct Gathered {
     pub five: bool,
@@ -40,20 +41,20 @@ pub struct Tag {
 }
 
 // An attribute by its number.
-fn put(g: Gathered, a: usize, w: Worth) -> Gathered
+fn put(g: Gathered, a: usize, w: Result<u32, Unfit>) -> Gathered
     requires { a < attribute_count }
     ensures { result ≡ put_worth g a w }
 {
     let mut h = g;
     h.has = bits::with_bit(g.has, a);
     match w {
-        Worth::Good(v) => {
+        Ok(v) => {
             h.values[a] = v;
         }
-        Worth::Refused(n) => {
+        Err(unfit) => {
             h.values[a] = 0;
-            h.six = (n == BAD_VALUE) | h.six;
-            h.seven = (n == NOT_CARRIED) | h.seven;
+            h.six = (unfit == Unfit::BadValue) | h.six;
+            h.seven = (unfit == Unfit::NotCarried) | h.seven;
         }
     }
     h
@@ -63,15 +64,12 @@ fn put(g: Gathered, a: usize, w: Worth) -> Gathered
 fn judge(g: Gathered, kind: usize, name: &[u8], text: &[u8]) -> Gathered
     ensures { result ≡ judged (rules_for kind) g (record { name = name.now; value = text.now }) }
 {
-    let a = attributes::attribute_in(kind, name);
-    if (ATTRIBUTES <= a) | bits::has_bit(g.has, a) {
-        let mut unfit = g;
-        unfit.five = true;
-        return unfit;
+    match attributes::attribute_in(kind, name) {
+        Some(a) if !bits::has_bit(g.has, a) => {
+            put(g, a, sorts::worth_of(attributes::sort_of(a), text))
+        }
+        _ => Gathered { five: true, ..g },
     }
-    let sort = attributes::sort_of(a);
-    let w = sorts::worth_of(sort, text);
-    put(g, a, w)
 }
 
 // The start tag of an element of the kind, from behind its name.
@@ -86,6 +84,7 @@ pub fn gather(file: &[u8], to: usize, kind: usize) -> Tag
         values: [0; ATTRIBUTES],
     };
     let mut j = to;
+    // No iterator over attributes: the part that ends them is answered too.
     while j < file.len() {
         match tags::part_at(file, j) {
             TagPart::Attribute(a, e, c, k) => {
@@ -93,19 +92,22 @@ pub fn gather(file: &[u8], to: usize, kind: usize) -> Tag
                 j = k + 1;
             }
             TagPart::Open(o) => {
-                let body = Body::Open(o);
-                return Tag { gathered, body };
+                return Tag {
+                    gathered,
+                    body: Body::Open(o),
+                };
             }
             TagPart::Empty(e) => {
-                let body = Body::Empty(e);
-                return Tag { gathered, body };
+                return Tag {
+                    gathered,
+                    body: Body::Empty(e),
+                };
             }
-            TagPart::Broken => {
-                let body = Body::Broken;
-                return Tag { gathered, body };
-            }
+            TagPart::Broken => break,
         }
     }
-    let body = Body::Broken;
-    Tag { gathered, body }
+    Tag {
+        gathered,
+        body: Body::Broken,
+    }
 }

@@ -9,7 +9,7 @@ use Rattle.loader.specs.Plan.{PlanOf, Loads}
 use Rattle.loader.specs.ScanCode.{plan_at}
 use Rattle.loader.specs.LaidCode.{Laid}
 use Rattle.loader.specs.declared.Layout.{Layout}
-use Rattle.loader.specs.declared.Loaded.TheVariants.{Taken}
+use Rattle.std.specs.Prelude.{Some}
 use Rattle.loader.proofs.Exact as exact
 use Rattle.engine.proofs.RowsLaws.{rows_all}
 use Rattle.engine.specs.EventCode.{plan_by}
@@ -25,9 +25,9 @@ laid_plan {ws} {lay} l =
     )
 
 -- for callers of the loader
-pub taken : {ws : List ℕ} {lay : Layout} → Loads ws (Taken lay) → PlanOf ws
+pub taken : {ws : List ℕ} {lay : Layout} → Loads ws (Some lay) → PlanOf ws
 taken {ws} l = record { plan = plan_at ws; is_in_range = (exact.taken_plan l).0; words = (exact.taken_plan l).1 }
 
-pub read_is : {ws : List ℕ} {lay : Layout} (l : Loads ws (Taken lay)) → plan_by ws lay ≡ (taken l).plan
+pub read_is : {ws : List ℕ} {lay : Layout} (l : Loads ws (Some lay)) → plan_by ws lay ≡ (taken l).plan
 unfolding taken
 read_is l = laid_plan (exact.laid l)

@@ -2,15 +2,16 @@
 use mathlib.Core.Path.{◌≡◌, refl, sym, ◌∙◌}
 use mathlib.Core.List.{List, [], ◌∷◌, ◌++◌}
 use mathlib.Core.Bool.{Bool, true, false, ◌&&◌, ◌||◌, cond, beq}
-use mathlib.Core.Option.{Option, none, some}
+use Rattle.std.proofs.Common.{Option, None, Some}
 use Rattle.records.specs.declared.Effect.{Effect}
 use Rattle.event_rules.specs.declared.Frame.{Frame}
-use Rattle.event_rules.specs.Rules.{MessageFilter, frame, is_pass, matches, filters_on, first_match, decides, passes}
+use Rattle.event_rules.specs.declared.Event.TheVariants.{Frame as frame}
+use Rattle.event_rules.specs.Rules.{MessageFilter, is_pass, matches, filters_on, first_match, decides, passes}
 use Rattle.engine.proofs.Hits.{passes_from}
 
 or_else : Option Effect → Option Effect → Option Effect
-or_else none b = b
-or_else (some e) b = some e
+or_else None b = b
+or_else (Some e) b = Some e
 
 first_append : (f : Frame) (xs ys : List MessageFilter) → first_match f (xs ++ ys) ≡ or_else (first_match f xs) (first_match f ys)
 unfolding first_match or_else
@@ -18,43 +19,43 @@ first_append f [] ys = refl
 first_append f (x ∷ xs) ys = go (matches f x) (first_append f xs ys)
   where
     go : (b : Bool) → first_match f (xs ++ ys) ≡ or_else (first_match f xs) (first_match f ys)
-        → cond b (some x.effect) (first_match f (xs ++ ys)) ≡ or_else (cond b (some x.effect) (first_match f xs)) (first_match f ys)
+        → cond b (Some x.effect) (first_match f (xs ++ ys)) ≡ or_else (cond b (Some x.effect) (first_match f xs)) (first_match f ys)
     go true e = refl
     go false e = e
 
 -- what decides: the first match of the pass filters, a stop filter that was seen to match, the first match of the stop filters,
 -- a pass filter that was seen on the channel, those that are left there
 settles : Bool → Bool → Option Effect → Option Effect → List MessageFilter → Bool
-settles stopped barred (some e) b passing = is_pass e
-settles true barred none b passing = false
-settles false barred none (some e) passing = is_pass e
-settles false true none none passing = false
-settles false false none none passing = decides none passing
+settles stopped barred (Some e) b passing = is_pass e
+settles true barred None b passing = false
+settles false barred None (Some e) passing = is_pass e
+settles false true None None passing = false
+settles false false None None passing = decides None passing
 
 settles_unseen : (a b : Option Effect) (passing : List MessageFilter) → settles false false a b passing ≡ decides (or_else a b) passing
 unfolding settles or_else
-settles_unseen (some e) b passing = refl
-settles_unseen none (some e) passing = refl
-settles_unseen none none passing = refl
+settles_unseen (Some e) b passing = refl
+settles_unseen None (Some e) passing = refl
+settles_unseen None None passing = refl
 
 -- a pass filter on the channel counts as one that was seen
 settles_barred : (stopped barred : Bool) (a b : Option Effect) (x : MessageFilter) (passing : List MessageFilter)
     → settles stopped true a b passing ≡ settles stopped barred a b (x ∷ passing)
 unfolding settles
-settles_barred stopped barred (some e) b x passing = refl
-settles_barred true barred none b x passing = refl
-settles_barred false barred none (some e) x passing = refl
-settles_barred false true none none x passing = refl
-settles_barred false false none none x passing = refl
+settles_barred stopped barred (Some e) b x passing = refl
+settles_barred true barred None b x passing = refl
+settles_barred false barred None (Some e) x passing = refl
+settles_barred false true None None x passing = refl
+settles_barred false false None None x passing = refl
 
 -- and so does a stop filter that matches
 settles_stopped : (stopped like barred : Bool) (a b : Option Effect) (passing : List MessageFilter) (e : Effect) → is_pass e ≡ false
-    → settles (stopped || like) barred a b passing ≡ settles stopped barred a (cond like (some e) b) passing
+    → settles (stopped || like) barred a b passing ≡ settles stopped barred a (cond like (Some e) b) passing
 unfolding settles
-settles_stopped stopped like barred (some d) b passing e h = refl
-settles_stopped true like barred none b passing e h = refl
-settles_stopped false true barred none b passing e h = sym h
-settles_stopped false false barred none b passing e h = refl
+settles_stopped stopped like barred (Some d) b passing e h = refl
+settles_stopped true like barred None b passing e h = refl
+settles_stopped false true barred None b passing e h = sym h
+settles_stopped false false barred None b passing e h = refl
 
 module _ (f : Frame) where
   -- one filter: whether it is on the channel, is a pass filter, matches; `next` is what those behind it decide

@@ -1,21 +1,16 @@
--- Parts of words, and turns of a loop over records in a row: i of k are passed, and the next stands in front of `rest`.
+-- Turns of a loop over records in a row: i of k are passed, and the next stands in front of `rest`.
 use Prim.Native.Nat.{ℕ, ◌+◌, ◌-◌, ◌≤◌, ◌<◌}
-use mathlib.Core.Path.{◌≡◌, refl, sym, ◌∙◌}
+use mathlib.Core.Path.{◌≡◌, refl, ◌∙◌}
 use mathlib.Core.List.{List, [], ◌∷◌}
 use mathlib.Core.Bool.{Bool, true, false, cond}
 use native.Mathlib.Omega.{arith}
-use native.Mathlib.Nat.{le_refl}
-use lib.ListN.{length, drop, drop_of_length-le}
+use lib.ListN.{length, drop}
 use lib.Dec.{leb}
 use borrow.Author.Tests.{leb-true}
 use Rattle.loader.specs.ScanCode.{records_of}
 use Rattle.loader.proofs.Laws.{records_turn}
 use Rattle.loader.proofs.Rows.{records_number}
 use Rattle.engine.specs.RowsCode.{rows_of}
-use Rattle.lists.proofs.Parts.{lent, lent_is}
-
-pub past : (words : List ℕ) (n : ℕ) → length words ≤ n → lent words (length words) ≡ drop n words
-past words n h = lent_is words (length words) ∙ drop_of_length-le words (le_refl (length words)) ∙ sym (drop_of_length-le words h)
 
 module _ (size : List ℕ → ℕ) {A : Type 0} (read : List ℕ → A) where
   pub turn : (words : List ℕ) (k i at : ℕ) (rest : List ℕ) (n : ℕ) → i < k → rest ≡ drop at words → n ≡ size rest

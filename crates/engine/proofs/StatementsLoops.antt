@@ -8,7 +8,6 @@ use native.Mathlib.Numerals.{add-one}
 use lib.ListN.{length, get_or, take, drop, set, drop_of_length-le}
 use lib.Seq.{drop-cons}
 use lib.Dec.{leb}
-use Rattle.code.specs.declared.Value.TheVariants.{Is, Fault}
 use Rattle.code.specs.Code.{value_on}
 use Rattle.records.specs.RecordsCode.{statement_size, statement_at, actions_at, code_at, action_at}
 use Rattle.loader.specs.ScanCode.{records_of}
@@ -19,7 +18,7 @@ use Rattle.event_rules.specs.declared.Logging.{Logging}
 use Rattle.event_rules.specs.Rules.{act, act_all}
 use Rattle.event_rules.specs.Calls.{statement_of}
 use Rattle.engine.specs.StatementsCode.{evaluate_all, act_risen}
-use Rattle.engine.specs.declared.statements.Evaluated.{Evaluated}
+use Rattle.std.proofs.Common.{None, Some}
 
 -- ---- a record
 module _ (rec behind lent : List ℕ) (a : ℕ) (ea : a ≡ get_or rec 1 0) where
@@ -44,32 +43,33 @@ module _ (words : List ℕ) (end i : ℕ) (l : Logging) where
 
 -- ---- statements
 module _ (words : List ℕ) (states : List Bool) (k : ℕ) where
-  pub evaluate_none : (r : Evaluated) → leb k 16 ≡ false
-      → r ≡ evaluate_all (map statement_of (rows_of statement_size statement_at 16 k words)) states 0 r
+  pub evaluate_none : (r : List Bool) → leb k 16 ≡ false
+      → Some r ≡ evaluate_all (map statement_of (rows_of statement_size statement_at 16 k words)) states 0 r
   unfolding evaluate_all
   evaluate_none r h = rw (rows_none statement_size statement_at 16 k words h)
 
-  pub evaluate_start : (r : Evaluated) → leb k 16 ≡ true
+  pub evaluate_start : (r : List Bool) → leb k 16 ≡ true
       → evaluate_all (map statement_of (records_of statement_size statement_at (k - 0) (drop 0 words))) states 0 r
       ≡ evaluate_all (map statement_of (rows_of statement_size statement_at 16 k words)) states 0 r
   evaluate_start r h = rw (rows_all statement_size statement_at 16 k words h, sub-zero k)
 
-  module _ (i at : ℕ) (r : Evaluated) where
+  module _ (i at : ℕ) (r : List Bool) where
     module _ (h : i < k) (rest : List ℕ) (q : rest ≡ drop at words) (n : ℕ) (z : n ≡ statement_size rest) where
-      pub evaluate_turn : (v : Bool) → (statement_of (statement_at rest)).holds states ≡ Is v
+      pub evaluate_turn : (v : Bool) → (statement_of (statement_at rest)).holds states ≡ Some v
           → evaluate_all (map statement_of (records_of statement_size statement_at (k - (i + 1)) (drop (at + n) words))) states (i + 1)
-          (record { ok = r.ok; truth = set r.truth i v })
+          (set r i v)
           ≡ evaluate_all (map statement_of (records_of statement_size statement_at (k - i) (drop at words))) states i r
       unfolding evaluate_all
       evaluate_turn v e = rw (turn statement_size statement_at words k i at rest n h q z, e)
 
-      pub evaluate_fault : (statement_of (statement_at rest)).holds states ≡ Fault
-          → record { ok = false; truth = r.truth }
+      pub evaluate_fault : (statement_of (statement_at rest)).holds states ≡ None
+          → None
           ≡ evaluate_all (map statement_of (records_of statement_size statement_at (k - i) (drop at words))) states i r
       unfolding evaluate_all
       evaluate_fault e = rw (turn statement_size statement_at words k i at rest n h q z, e)
 
-    pub evaluate_end : k ≤ i → r ≡ evaluate_all (map statement_of (records_of statement_size statement_at (k - i) (drop at words))) states i r
+    pub evaluate_end : k ≤ i
+        → Some r ≡ evaluate_all (map statement_of (records_of statement_size statement_at (k - i) (drop at words))) states i r
     unfolding evaluate_all
     evaluate_end h = rw (records_end statement_size statement_at words k i at h)
 

@@ -2,29 +2,26 @@
 use Prim.Native.Nat.{ℕ, zero, suc, ◌+◌, ◌≤◌}
 use mathlib.Core.Path.{◌≡◌, refl, ap, ◌∙◌}
 use mathlib.Core.List.{List, [], ◌∷◌, ◌++◌, map, zip_with}
-use mathlib.Core.Bool.{Bool, true, false, not, ◌&&◌}
-use mathlib.Core.Option.{Option, none, some}
+use mathlib.Core.Bool.{Bool, false, not, ◌&&◌}
+use Rattle.std.proofs.Common.{Option, None, Some}
 use native.Mathlib.Omega.{arith}
 use native.Mathlib.Numerals.{add-one}
 use lib.ListN.{length, get_or, drop, replicate, length-append}
 use lib.Seq.{set_at, append_snoc, drop-cons}
-use Rattle.code.specs.declared.Value.{Value}
-use Rattle.code.specs.declared.Value.TheVariants.{Is, Fault}
 use Rattle.code.proofs.Sound.{value_ext}
 use Rattle.records.specs.Records as plans
 use Rattle.event_rules.specs.declared.Logging.{Logging}
 use Rattle.event_rules.specs.Rules.{Statement, and_then, evaluated, actions}
 use Rattle.event_rules.specs.Calls.{statement_of}
 use Rattle.engine.specs.StatementsCode.{evaluate_from, evaluate_all, act_risen}
-use Rattle.engine.specs.declared.statements.Evaluated.{Evaluated}
 
--- what the array of truths is behind the evaluation; a fault is only a flag
-abbrev pub Evaluates : Option (List Bool) → List Bool → List Bool → Evaluated → Type 0
-Evaluates none a ts r = r.ok ≡ false
-Evaluates (some now) a ts r = r ≡ record { ok = true; truth = a ++ (now ++ drop (length now) ts) }
+-- what the array of truths is behind the evaluation, if there is one
+abbrev pub Evaluates : Option (List Bool) → List Bool → List Bool → Option (List Bool) → Type 0
+Evaluates None a ts r = r ≡ None
+Evaluates (Some now) a ts r = r ≡ Some (a ++ (now ++ drop (length now) ts))
 
 pub all_evaluated : (ss : List Statement) (st : List Bool) (a ts : List Bool) (i : ℕ) → length a ≡ i → length ss ≤ length ts
-    → Evaluates (evaluated ss st) a ts (evaluate_all ss st i (record { ok = true; truth = a ++ ts }))
+    → Evaluates (evaluated ss st) a ts (evaluate_all ss st i (a ++ ts))
 unfolding evaluated evaluate_all
 all_evaluated [] st a ts i ha hl = refl
 all_evaluated (s ∷ ss) st a [] i ha hl = absurd (omega arith)
@@ -32,29 +29,29 @@ all_evaluated (s ∷ ss) st a (t ∷ ts) i ha hl =
     go (s.holds st) (λ v. all_evaluated ss st (a ++ (v ∷ [])) ts (i + 1) (simp length-append (omega arith)) (omega arith))
   where
     on : (v : Bool) (o : Option (List Bool))
-        → Evaluates o (a ++ (v ∷ [])) ts (evaluate_all ss st (i + 1) (record { ok = true; truth = (a ++ (v ∷ [])) ++ ts }))
-        → Evaluates (and_then (Is v) o) a (t ∷ ts) (evaluate_all ss st (i + 1) (record { ok = true; truth = (a ++ (v ∷ [])) ++ ts }))
-    on v none h = h
-    on v (some now) h = h ∙ rw (append_snoc a v (now ++ drop (length now) ts)) refl
+        → Evaluates o (a ++ (v ∷ [])) ts (evaluate_all ss st (i + 1) ((a ++ (v ∷ [])) ++ ts))
+        → Evaluates (and_then (Some v) o) a (t ∷ ts) (evaluate_all ss st (i + 1) ((a ++ (v ∷ [])) ++ ts))
+    on v None h = h
+    on v (Some now) h = h ∙ rw (append_snoc a v (now ++ drop (length now) ts)) refl
 
-    go : (v : Value)
+    go : (v : Option Bool)
         → ((v : Bool) → Evaluates (evaluated ss st) (a ++ (v ∷ [])) ts
-        (evaluate_all ss st (i + 1) (record { ok = true; truth = (a ++ (v ∷ [])) ++ ts })))
+        (evaluate_all ss st (i + 1) ((a ++ (v ∷ [])) ++ ts)))
         → Evaluates (and_then v (evaluated ss st)) a (t ∷ ts)
-        (evaluate_from v (evaluate_all ss st (i + 1)) i (record { ok = true; truth = a ++ (t ∷ ts) }))
-    go Fault next = refl
-    go (Is v) next = rw (set_at a t ts v i ha, ← append_snoc a v ts) (on v (evaluated ss st) (next v))
+        (evaluate_from v (evaluate_all ss st (i + 1)) i (a ++ (t ∷ ts)))
+    go None next = refl
+    go (Some v) next = rw (set_at a t ts v i ha, ← append_snoc a v ts) (on v (evaluated ss st) (next v))
 
-pub evaluated_length : (ss : List Statement) (st now : List Bool) → evaluated ss st ≡ some now → length now ≡ length ss
+pub evaluated_length : (ss : List Statement) (st now : List Bool) → evaluated ss st ≡ Some now → length now ≡ length ss
 unfolding evaluated
 evaluated_length [] st now e = let q : now ≡ [] = cc in ap length q
 evaluated_length (s ∷ ss) st now e = go (s.holds st) (evaluated ss st) refl e (evaluated_length ss st)
   where
-    go : (v : Value) (o : Option (List Bool)) → evaluated ss st ≡ o → and_then v o ≡ some now
-        → ((now : List Bool) → evaluated ss st ≡ some now → length now ≡ length ss) → length now ≡ suc (length ss)
-    go Fault o p q next = absurd (let z : ◌≡◌ {A = ℕ} 0 1 = cc in omega arith)
-    go (Is v) none p q next = absurd (let z : ◌≡◌ {A = ℕ} 0 1 = cc in omega arith)
-    go (Is v) (some vs) p q next = let r : now ≡ v ∷ vs = cc in rw r (ap suc (next vs p))
+    go : (v : Option Bool) (o : Option (List Bool)) → evaluated ss st ≡ o → and_then v o ≡ Some now
+        → ((now : List Bool) → evaluated ss st ≡ Some now → length now ≡ length ss) → length now ≡ suc (length ss)
+    go None o p q next = absurd (let z : ◌≡◌ {A = ℕ} 0 1 = cc in omega arith)
+    go (Some v) None p q next = absurd (let z : ◌≡◌ {A = ℕ} 0 1 = cc in omega arith)
+    go (Some v) (Some vs) p q next = let r : now ≡ v ∷ vs = cc in rw r (ap suc (next vs p))
 
 -- the arrays may be longer than the statements are many
 pub all_acted : (ss : List Statement) (u : ℕ) (was now : List Bool) (i : ℕ) (l : Logging) → i + length ss ≤ length was

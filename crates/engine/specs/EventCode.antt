@@ -1,5 +1,5 @@
 -- One event as the code goes: the plan that is read off words, and an answer beside the state.
-use Rattle.std.specs.Prelude.{ℕ, List, Bool, true, cond, get_or, drop, eqb}
+use Rattle.std.specs.Prelude.{ℕ, List, Bool, true, false, get_or, drop, eqb, ◌≡◌, ⊤, Option}
 use Rattle.records.specs.Records as plans
 use Rattle.records.specs.RecordsCode.{trigger_size, trigger_at, filter_size, filter_at, statement_size, statement_at}
 use Rattle.records.specs.declared.Trigger.{Trigger}
@@ -8,13 +8,17 @@ use Rattle.loader.specs.Plan.{Plan}
 use Rattle.loader.specs.ScanCode.{records_of}
 use Rattle.loader.specs.declared.Layout.{Layout}
 use Rattle.engine.specs.RowsCode.{rows_of}
+use Rattle.event_rules.specs.declared.Event.{Event}
+use Rattle.event_rules.specs.declared.Event.TheVariants.{Frame as frame, Tick as tick}
 use Rattle.event_rules.specs.declared.Engine.{Engine}
+use Rattle.event_rules.specs.declared.Counts.{Counts}
 use Rattle.event_rules.specs.declared.Logging.{Logging}
 use Rattle.event_rules.specs.declared.Outcome.{Outcome}
+use Rattle.event_rules.specs.declared.Refusal.TheVariants.{CodeFault}
 use Rattle.event_rules.specs.declared.Answer.{Answer}
 use Rattle.event_rules.specs.declared.Answer.TheVariants as answers
-use Rattle.event_rules.specs.Rules.{ended_by, recorded_or_idle, Result, gives, faults}
-use Rattle.engine.specs.TriggersCode.{firings_of}
+use Rattle.event_rules.specs.Rules.{time_of, answering, ended_by, recorded_or_idle, Result, gives, faults}
+use Rattle.event_rules.specs.Calls.{full, counted}
 use Rattle.engine.specs.declared.event.Running.{Running}
 use Rattle.engine.specs.declared.event.Ran.{Ran}
 use Rattle.engine.specs.declared.event.Stepped.{Stepped}
@@ -39,39 +43,44 @@ plan_by ws lay =
       statements = statements_read ws lay;
     }
 
--- ---- the state, whose times of the last firings lie elsewhere
-abbrev pub engine_of : Running → List ℕ → Engine
-engine_of s times =
-    record { logging = s.logging; fired = firings_of s.ever times; truth = s.truth; started = s.started; last = s.last }
+-- ---- the state, whose last firings lie elsewhere
+abbrev pub engine_of : Running → List (Option ℕ) → Engine
+engine_of s fired = record { logging = s.logging; fired = fired; truth = s.truth; started = s.started; last = s.last }
 
-abbrev pub outcome_of : Ran → List ℕ → Outcome
-outcome_of r times = record { answer = r.answer; engine = engine_of r.state times; counts = r.counts }
+abbrev pub outcome_of : Ran → List (Option ℕ) → Outcome
+outcome_of r fired = record { answer = r.answer; engine = engine_of r.state fired; counts = r.counts }
 
 -- ---- one event
+-- a frame is counted, and no tick
+abbrev pub HasRoom : Counts → Event → Type 0
+HasRoom k (frame f) = full k ≡ false
+HasRoom k (tick u) = ⊤
+
+abbrev pub event_counted : Counts → Event → Answer → Counts
+event_counted k (frame f) a = counted k a
+event_counted k (tick u) a = k
+
 -- an answer and the engine behind it
 pub record Reached : Type 0 where
   pub answer : Answer
   pub engine : Engine
 
-abbrev pub reached_by : Stepped → List ℕ → Reached
-reached_by r times = record { answer = r.answer; engine = engine_of r.state times }
-
-abbrev pub ticked_or : Bool → Answer → Answer
-ticked_or ticks a = cond ticks answers.Ticked a
+abbrev pub reached_by : Stepped → List (Option ℕ) → Reached
+reached_by r fired = record { answer = r.answer; engine = engine_of r.state fired }
 
 -- an event that goes no further than the filters
-abbrev pub answered_at : Running → Logging → Bool → ℕ → Answer → Stepped
-answered_at s l ticks u a =
-    record { answer = ticked_or ticks a; state = record { logging = l; ever = s.ever; truth = s.truth; started = s.started; last = u } }
+abbrev pub answered_at : Running → Logging → Event → Answer → Stepped
+answered_at s l e a =
+    record { answer = answering e a; state = record { logging = l; truth = s.truth; started = s.started; last = time_of e } }
 
 -- step 7, on what the statements left
-abbrev pub settled_at : List Bool → List Bool → Logging → Bool → ℕ → Stepped
-settled_at ever truth acted ticks u = record {
-  answer = ticked_or ticks (recorded_or_idle (ended_by u acted));
-  state = record { logging = ended_by u acted; ever = ever; truth = truth; started = true; last = u };
+abbrev pub settled_at : List Bool → Logging → Event → Stepped
+settled_at truth acted e = record {
+  answer = answering e (recorded_or_idle (ended_by (time_of e) acted));
+  state = record { logging = ended_by (time_of e) acted; truth = truth; started = true; last = time_of e };
 }
 
 -- a fault is answered by 25, with the engine as it was
 abbrev pub reached : Engine → Result → Reached
-reached en faults = record { answer = answers.Refused 25; engine = en }
+reached en faults = record { answer = answers.Refused CodeFault; engine = en }
 reached en (gives a after) = record { answer = a; engine = after }

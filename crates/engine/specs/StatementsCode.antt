@@ -1,19 +1,16 @@
 -- The statements as the loops go: by index into arrays. All are evaluated, then those that rose act. Nobody has to believe it:
 -- proofs/StatementsTies.antt shows it equal to the rules.
-use Rattle.std.specs.Prelude.{ℕ, ◌+◌, ◌*◌, List, [], ◌∷◌, Bool, false, not, ◌&&◌, cond, get_or, set, leb}
-use Rattle.code.specs.declared.Value.{Value}
-use Rattle.code.specs.declared.Value.TheVariants.{Is, Fault}
+use Rattle.std.specs.Prelude.{ℕ, ◌+◌, ◌*◌, List, [], ◌∷◌, Bool, false, not, ◌&&◌, cond, get_or, set, leb, Option, None, Some}
 use Rattle.event_rules.specs.declared.Logging.{Logging}
 use Rattle.event_rules.specs.Rules.{Statement, act_all}
-use Rattle.engine.specs.declared.statements.Evaluated.{Evaluated}
 
-abbrev pub evaluate_from : Value → (Evaluated → Evaluated) → ℕ → Evaluated → Evaluated
-evaluate_from Fault next i r = record { ok = false; truth = r.truth }
-evaluate_from (Is v) next i r = next (record { ok = r.ok; truth = set r.truth i v })
+abbrev pub evaluate_from : Option Bool → (List Bool → Option (List Bool)) → ℕ → List Bool → Option (List Bool)
+evaluate_from None next i truth = None
+evaluate_from (Some v) next i truth = next (set truth i v)
 
-unfoldable pub evaluate_all : List Statement → List Bool → ℕ → Evaluated → Evaluated
-evaluate_all [] states i r = r
-evaluate_all (s ∷ ss) states i r = evaluate_from (s.holds states) (evaluate_all ss states (i + 1)) i r
+unfoldable pub evaluate_all : List Statement → List Bool → ℕ → List Bool → Option (List Bool)
+evaluate_all [] states i truth = Some truth
+evaluate_all (s ∷ ss) states i truth = evaluate_from (s.holds states) (evaluate_all ss states (i + 1)) i truth
 
 unfoldable pub act_risen : List Statement → ℕ → List Bool → List Bool → ℕ → Logging → Logging
 act_risen [] u was now i l = l

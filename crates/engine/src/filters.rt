@@ -4,7 +4,8 @@
 ghost use Rattle.std.specs.Prelude.{◌≡◌, map, ◌/◌, ◌%◌, ◌^◌, eqb};
 ghost use Rattle.records.specs.RecordsCode.{filter_size, filter_at};
 ghost use Rattle.loader.specs.ScanCode.{records_of};
-ghost use Rattle.event_rules.specs.Rules.{Event, frame, passes};
+ghost use Rattle.event_rules.specs.declared.Event.TheVariants.{Frame as frame};
+ghost use Rattle.event_rules.specs.Rules.{passes};
 ghost use Rattle.event_rules.specs.Calls.{filter_rule};
 
 use crate::rows;
@@ -15,23 +16,18 @@ use steps::matches;
 fn has_bit(mask: u32, n: u32) -> bool
     ensures { result ≡ eqb (mask / 2 ^ n % 2) 1 }
 {
-    if n < 32 { (mask >> n) % 2 == 1 } else { false }
+    n < 32 && (mask >> n) % 2 == 1
 }
-
-const PASSED: bool = true;
-
-const STOPPED: bool = false;
 
 // Pass filters first, then stop filters; where none matches, a pass filter on the channel stops the frame.
 pub(crate) fn passed(filters: &[u32], count: u32, f: Frame) -> bool
-    ensures { result ≡ passes (map filter_rule (records_of filter_size filter_at count filters.now)) (Event.frame f) }
+    ensures { result ≡ passes (map filter_rule (records_of filter_size filter_at count filters.now)) (frame f) }
 {
     // whether a stop filter matched so far, and whether a pass filter stands on the channel
     let mut stopped = false;
     let mut barred = false;
     let mut at = 0;
-    let mut i = 0;
-    while i < count {
+    for _ in 0..count {
         let rest = rows::tail(filters, at);
         if has_bit(records::word(rest, 1), f.channel) {
             let x = records::filter_at(rest);
@@ -40,7 +36,7 @@ pub(crate) fn passed(filters: &[u32], count: u32, f: Frame) -> bool
             match effect {
                 Effect::Pass => {
                     if like {
-                        return PASSED;
+                        return true;
                     }
                     barred = true;
                 }
@@ -50,10 +46,9 @@ pub(crate) fn passed(filters: &[u32], count: u32, f: Frame) -> bool
             }
         }
         at += sizes::filter_size(rest);
-        i += 1;
     }
     if stopped {
-        return STOPPED;
+        return false;
     }
     !barred
 }

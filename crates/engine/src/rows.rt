@@ -7,16 +7,12 @@ ghost use Rattle.std.specs.Prelude.{◌≡◌, take, drop};
 pub(crate) fn head(words: &[u32], n: usize) -> &[u32]
     ensures { result.now ≡ take n words.now }
 {
-    if n < words.len() { &words[..n] } else { words }
+    &words[..n.min(words.len())]
 }
 
 // The words from `at` on, or none past their end.
 pub(crate) fn tail(words: &[u32], at: usize) -> &[u32]
     ensures { result.now ≡ drop at words.now }
 {
-    if at < words.len() {
-        &words[at..]
-    } else {
-        &words[words.len()..]
-    }
+    &words[at.min(words.len())..]
 }

@@ -9,79 +9,49 @@ ghost use Rattle.event_rules.specs.Calls.{statement_of};
 ghost use Rattle.engine.specs.StatementsCode.{evaluate_all, act_risen, in_time};
 
 use crate::rows;
-use code::{Value, run};
+use code::run;
 use event_rules::Logging;
-use records::sizes;
+use records::{Action, sizes};
 use steps::logging;
 
-// The statements' truths; `ok` is false at a code fault.
-#[derive(Clone, Copy)]
-pub struct Evaluated {
-    pub ok: bool,
-    pub truth: [bool; 16],
-}
-
-fn wide(x: u32) -> usize
-    ensures { (result ≡ x) × (result < 4294967296) }
-{
-    x as usize
-}
-
-fn wide_time(x: u32) -> u64
-    ensures { (result ≡ x) × (result < 4294967296) }
-{
-    x as u64
-}
-
-// What a statement's code gives on the triggers' states.
-fn evaluate_one(rec: &[u32], states: [bool; 32]) -> Value
+// What a statement's code gives on the triggers' states; none at a fault.
+fn evaluate_one(rec: &[u32], states: [bool; 32]) -> Option<bool>
     ensures { result ≡ (statement_of (statement_at rec.now)).holds states }
 {
-    let actions = wide(records::word(rec, 1));
-    let size = wide(records::word(rec, 2));
+    let actions = records::word(rec, 1) as usize;
+    let size = records::word(rec, 2) as usize;
     let behind = rows::tail(rec, 3 + actions);
     run::evaluate(rows::head(behind, size), states)
 }
 
-// All expressions, in order; none where there are more than 16.
+// All expressions, in order, into the truths; none where there are more than 16. A fault of the code leaves no truths.
 pub(crate) fn evaluate_all(
     statements: &[u32],
     count: u32,
     states: [bool; 32],
-    start: Evaluated,
-) -> Evaluated
+    start: [bool; 16],
+) -> Option<[bool; 16]>
     ensures { result ≡ evaluate_all (map statement_of (rows_of statement_size statement_at 16 count statements.now)) states 0 start }
 {
     if 16 < count {
-        return start;
+        return Some(start);
     }
-    let n = count as usize;
-    let mut r = start;
+    let mut truth = start;
     let mut at = 0;
-    let mut i = 0;
-    while i < n {
+    for i in 0..count as usize {
         let rest = rows::tail(statements, at);
-        let value = evaluate_one(rest, states);
-        let Value::Is(v) = value else {
-            r.ok = false;
-            return r;
-        };
-        r.truth[i] = v;
+        truth[i] = evaluate_one(rest, states)?;
         at += sizes::statement_size(rest);
-        i += 1;
     }
-    r
+    Some(truth)
 }
 
 fn act_all(actions: &[u32], end: u64, start: Logging) -> Logging
     ensures { result ≡ act_all end (map action_at actions.now) start }
 {
     let mut l = start;
-    let mut i = 0;
-    while i < actions.len() {
-        let a = records::action_at(actions[i]);
-        l = logging::do_action(l, a, end);
-        i += 1;
+    for word in actions {
+        l = logging::do_action(l, Action::from(*word), end);
     }
     l
 }
@@ -94,8 +64,8 @@ fn act_statement(rec: &[u32], u: u64, rose: bool, l: Logging) -> Logging
     if !rose {
         return l;
     }
-    let end = u + 1000 * wide_time(records::word(rec, 0));
-    let count = wide(records::word(rec, 1));
+    let end = u + 1000 * u64::from(records::word(rec, 0));
+    let count = records::word(rec, 1) as usize;
     let behind = rows::tail(rec, 3);
     act_all(rows::head(behind, count), end, l)
 }
@@ -117,15 +87,12 @@ pub(crate) fn act_risen(
     if 16 < count {
         return start;
     }
-    let n = count as usize;
     let mut l = start;
     let mut at = 0;
-    let mut i = 0;
-    while i < n {
+    for i in 0..count as usize {
         let rest = rows::tail(statements, at);
         l = act_statement(rest, u, truth[i] & !was[i], l);
         at += sizes::statement_size(rest);
-        i += 1;
     }
     l
 }

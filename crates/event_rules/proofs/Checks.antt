@@ -9,9 +9,9 @@ use Rattle.code.specs.HeightsCode.{rise_op, rise, height, sound_code}
 use Rattle.code.specs.Code as code
 use Rattle.records.specs.Records.{filter_in}
 use Rattle.loader.specs.Plan.{Plan, statement_in, in_range}
-use Rattle.event_rules.specs.Types.{Cause, Id, Ms, Trigger, Effect, Pass, Stop, Filter, StartLog, StopLog, StopLogCompletely, On, Ending, EndingCompletely, Answer, Outcome}
+use Rattle.event_rules.specs.Types.{Event, frame, tick, BadTime, Cause, Id, Ms, Trigger, Effect, Pass, Stop, Filter, StartLog, StopLog, StopLogCompletely, On, Ending, EndingCompletely, Answer, Outcome}
 use Rattle.event_rules.specs.declared.Answer.TheVariants as answers
-use Rattle.event_rules.specs.Rules.{Event, frame, tick, matches, filters_on, first_match, passes, fires, states, firings, evaluated, act_all, actions, triggered, process}
+use Rattle.event_rules.specs.Rules.{matches, filters_on, first_match, passes, fires, states, firings, evaluated, act_all, actions, triggered, process}
 use Rattle.event_rules.specs.Calls.{fresh, no_counts, step, filter_rule, config_of}
 use Rattle.event_rules.specs.History.{outcomes, counts_after}
 use Rattle.lists.specs.Lists.{all}
@@ -73,7 +73,7 @@ answers_of p es = map (λ o. o.answer) (outcomes_of p es)
 -- A complete stop while ending keeps e.
 -- No start brings back a complete ending.
 pub ending_check : (answers_of three (at 500 9 ∷ at 1000 1 ∷ at 10000 2 ∷ at 11999 9 ∷ at 12000 9 ∷ at 11000 9 ∷ [])
-    ≡ answers.Idle ∷ answers.Recorded ∷ answers.Recorded ∷ answers.Recorded ∷ answers.Idle ∷ answers.Refused 22 ∷ [])
+    ≡ answers.Idle ∷ answers.Recorded ∷ answers.Recorded ∷ answers.Recorded ∷ answers.Idle ∷ answers.Refused BadTime ∷ [])
     × (map (λ o. o.engine.logging) (outcomes_of three (at 1000 1 ∷ at 10000 2 ∷ at 11000 3 ∷ []))
     ≡ On ∷ Ending 12000 ∷ EndingCompletely 12000 ∷ [])
     × (answers_of three (at 1000 1 ∷ at 10000 2 ∷ at 11000 3 ∷ at 11500 1 ∷ at 11999 9 ∷ at 12000 1 ∷ tick 12000 ∷ at 13000 1 ∷ [])

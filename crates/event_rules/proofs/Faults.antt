@@ -2,25 +2,25 @@
 use Prim.Native.Nat.{ℕ, ◌<◌}
 use mathlib.Core.Path.{◌≡◌, refl, ap, sym, ◌∙◌}
 use mathlib.Core.List.{List, [], ◌∷◌, ◌++◌, map}
-use mathlib.Core.Bool.{Bool, true, false, not, ◌&&◌, cond, false≢true, and-false}
-use mathlib.Core.Option.{some, none-ne-some}
+use mathlib.Core.Bool.{Bool, true, false, not, ◌&&◌, false≢true, and-false}
+use Rattle.std.proofs.Common.{Option, None, Some}
 use native.Mathlib.Omega.{arith}
 use lib.ListN.{length}
-use lib.Dec.{eqb}
 use Rattle.code.specs.HeightsCode.{sound_code}
 use Rattle.code.proofs.Sound.{value_of_sound}
 use Rattle.records.specs.Records as plans
 use Rattle.loader.specs.Plan.{Plan, statement_in, in_range}
-use Rattle.event_rules.specs.Types.{Logging, Engine, Counts, Answer, Outcome}
+use Rattle.event_rules.specs.Types.{Event, Refusal, CodeFault, Logging, Engine, Counts, Answer, Outcome}
 use Rattle.event_rules.specs.declared.Answer.TheVariants as answers
-use Rattle.event_rules.specs.Rules.{Config, Event, Result, gives, faults, states, evaluated, acted, triggered, process}
-use Rattle.event_rules.specs.Calls.{event_refusal, answer_refusal, refused, closed, step, statement_of, config_of, Answers, by_plan, no_plan}
+use Rattle.event_rules.specs.Rules.{Config, Result, gives, faults, states, evaluated, acted, triggered, process}
+use Rattle.event_rules.specs.Calls.{refusal_number, event_refusal, answer_refusal, unless_refused, step, statement_of, config_of, Answers, by_plan, no_plan}
 use Rattle.event_rules.specs.History.{outcomes}
 use Rattle.event_rules.proofs.Outcomes.{refusal_range, not_refusal, process_cases, ProcessGives, given, fails, process_gives}
 use Rattle.lists.specs.Lists.{all}
 
-pub refusal_below_25 : (c : Config) (en : Engine) (k : Counts) (e : Event) → event_refusal c en k e < 25
-refusal_below_25 c en k e = omega (arith, (refusal_range c en k e).0)
+pub refusal_below_25 : (c : Config) (en : Engine) (k : Counts) (e : Event) (r : Refusal) → event_refusal c en k e ≡ Some r
+    → refusal_number r < 25
+refusal_below_25 c en k e r q = omega (arith, (refusal_range c en k e r q).1)
 
 gives_not_faults : {a : Answer} {after : Engine} → gives a after ≡ faults → ⊥
 gives_not_faults q = let z : ◌≡◌ {A = ℕ} 0 1 = cc in omega arith
@@ -44,7 +44,7 @@ statements_in_range p ok = true_if (all (statement_in (length p.triggers)) p.sta
 
 -- all expressions of such statements have values
 values : (t : ℕ) (ss : List plans.PlanStatement) → all (statement_in t) ss ≡ true → (now : List Bool)
-    → (vs : List Bool) × (evaluated (map statement_of ss) now ≡ some vs)
+    → (vs : List Bool) × (evaluated (map statement_of ss) now ≡ Some vs)
 unfolding all evaluated
 values t [] ok now = ([], refl)
 values t (s ∷ ss) ok now =
@@ -59,26 +59,28 @@ module _ (p : Plan) (ok : in_range p ≡ true) (en : Engine) where
   triggered_runs e l q =
       let vs =
       values (length p.triggers) p.statements (statements_in_range p ok) (states p.triggers (not en.started) e en.fired) in
-      let gone : acted (config_of p) en l e (some vs.0) ≡ faults = rw vs.1 at q in
+      let gone : acted (config_of p) en l e (Some vs.0) ≡ faults = rw vs.1 at q in
       gives_not_faults gone
 
   pub never_faults : (e : Event) → process (config_of p) en e ≡ faults → ⊥
   never_faults e = process_cases (λ r. r ≡ faults → ⊥) (config_of p) en e (λ l w. gives_not_faults) (triggered_runs e)
 
-  pub never_25 : (k : Counts) (e : Event) → (step (config_of p) en k e).answer ≡ answers.Refused 25 → ⊥
+  pub never_25 : (k : Counts) (e : Event) → (step (config_of p) en k e).answer ≡ answers.Refused CodeFault → ⊥
   unfolding step
-  never_25 k e = go (eqb (event_refusal (config_of p) en k e) 0) (process_gives (config_of p) en e) (never_faults e)
+  never_25 k e = go (event_refusal (config_of p) en k e) refl (process_gives (config_of p) en e) (never_faults e)
     where
-      go : (b : Bool) {r : Result} → ProcessGives e r → (r ≡ faults → ⊥)
-          → (cond b (closed en k r) (refused (event_refusal (config_of p) en k e) en k)).answer ≡ answers.Refused 25 → ⊥
-      go true (given w after) runs q = none-ne-some (25, 0) (sym (not_refusal e w) ∙ ap answer_refusal q)
-      go true fails runs q = runs refl
-      go false g runs q = let same : event_refusal (config_of p) en k e ≡ 25 = cc in omega (arith, refusal_below_25 (config_of p) en k e)
+      go : (o : Option Refusal) → event_refusal (config_of p) en k e ≡ o → {r : Result} → ProcessGives e r → (r ≡ faults → ⊥)
+          → (unless_refused o en k r).answer ≡ answers.Refused CodeFault → ⊥
+      go None s (given w after) runs q = let z = sym (not_refusal e w) ∙ ap answer_refusal q in cc
+      go None s fails runs q = runs refl
+      go (Some x) s g runs q =
+          let same : x ≡ CodeFault = cc in
+          omega (arith, refusal_below_25 (config_of p) en k e CodeFault (s ∙ ap Some same))
 
 -- so no history of such a plan has 25 among its answers
 pub history_never_25 : (p : Plan) → in_range p ≡ true
     → (en : Engine) (k : Counts) (es : List Event) (before : List Outcome) (o : Outcome) (behind : List Outcome)
-    → outcomes (config_of p) en k es ≡ before ++ (o ∷ behind) → o.answer ≡ answers.Refused 25 → ⊥
+    → outcomes (config_of p) en k es ≡ before ++ (o ∷ behind) → o.answer ≡ answers.Refused CodeFault → ⊥
 unfolding outcomes
 history_never_25 p ok en k [] [] o behind h q = let z : ◌≡◌ {A = ℕ} 0 1 = cc in omega arith
 history_never_25 p ok en k [] (b ∷ before) o behind h q = let z : ◌≡◌ {A = ℕ} 0 1 = cc in omega arith
@@ -90,6 +92,6 @@ history_never_25 p ok en k (e ∷ es) (b ∷ before) o behind h q =
 
 -- and no event call answers 25
 pub call_never_25 : {ws : List ℕ} {en : Engine} {k : Counts} {e : Event} {o : Outcome} → Answers ws en k e o
-    → o.answer ≡ answers.Refused 25 → ⊥
+    → o.answer ≡ answers.Refused CodeFault → ⊥
 call_never_25 {ws} {en} {k} {e} (by_plan p) q = never_25 p.plan p.is_in_range en k e q
-call_never_25 (no_plan none) q = let z : ◌≡◌ {A = ℕ} 20 25 = cc in omega arith
+call_never_25 (no_plan none) q = cc

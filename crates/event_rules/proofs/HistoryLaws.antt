@@ -3,14 +3,14 @@
 use Prim.Native.Nat.{ℕ, ◌+◌}
 use mathlib.Core.Path.{◌≡◌, refl, ap, sym, ◌∙◌}
 use mathlib.Core.List.{List, [], ◌∷◌}
-use mathlib.Core.Option.{none-ne-some}
 use native.Mathlib.Omega.{arith}
 use Rattle.loader.specs.Plan.{Loads, takes, refuses}
-use Rattle.loader.specs.declared.Loaded.{Loaded}
+use Rattle.std.specs.Prelude.{Option as Maybe}
+use Rattle.loader.specs.declared.Layout.{Layout}
 use Rattle.loader.proofs.Exact.{one_plan, loads}
-use Rattle.event_rules.specs.Types.{Engine, Counts, Outcome}
+use Rattle.event_rules.specs.Types.{Event, frame, tick, Refusal, Engine, Counts, Outcome}
 use Rattle.event_rules.specs.declared.Answer.TheVariants as answers
-use Rattle.event_rules.specs.Rules.{Config, Event, frame, tick}
+use Rattle.event_rules.specs.Rules.{Config}
 use Rattle.event_rules.specs.Calls.{counted, answer_refusal, step, config_of, Answers, by_plan, no_plan}
 use Rattle.event_rules.specs.History.{outcomes, CallsInTurn, over, call, counted_all, counts_after, sum_of, accepted, accepted_frames}
 use Rattle.event_rules.proofs.Outcomes.{recorded, idle, stopped, halted, not_refusal, StepGives, refuses, accepts, step_gives}
@@ -30,15 +30,15 @@ module _ {en : Engine} {k : Counts} where
   gives_sum (tick u) (refuses n) = omega arith
   gives_sum (tick u) (accepts w after) = omega arith
 
-  gives_unchanged : (e : Event) {o : Outcome} (n : ℕ) → StepGives en k e o → o.answer ≡ answers.Refused n
+  gives_unchanged : (e : Event) {o : Outcome} (r : Refusal) → StepGives en k e o → o.answer ≡ answers.Refused r
       → (o.engine ≡ en) × (o.counts ≡ k)
-  gives_unchanged e n (refuses m) p = (refl, refl)
-  gives_unchanged e n (accepts w after) p = absurd (none-ne-some (n, 0) (sym (not_refusal e w) ∙ ap answer_refusal p))
+  gives_unchanged e r (refuses x) p = (refl, refl)
+  gives_unchanged e r (accepts w after) p = let q = sym (not_refusal e w) ∙ ap answer_refusal p in cc
 
 module _ (c : Config) (en : Engine) (k : Counts) (e : Event) where
-  pub refused_changes_nothing : (n : ℕ) → (step c en k e).answer ≡ answers.Refused n
+  pub refused_changes_nothing : (r : Refusal) → (step c en k e).answer ≡ answers.Refused r
       → ((step c en k e).engine ≡ en) × ((step c en k e).counts ≡ k)
-  refused_changes_nothing n p = gives_unchanged e n (step_gives c en e k) p
+  refused_changes_nothing r p = gives_unchanged e r (step_gives c en e k) p
 
 -- ---- any history
 pub counts_history : (c : Config) (en : Engine) (k : Counts) (es : List Event)
@@ -68,7 +68,7 @@ answers_once (no_plan none) (no_plan none') = refl
 answers_there : (ws : List ℕ) (en : Engine) (k : Counts) (e : Event) → (o : Outcome) × Answers ws en k e o
 answers_there ws en k e = go (loads ws)
   where
-    go : {r : Loaded} → Loads ws r → (o : Outcome) × Answers ws en k e o
+    go : {r : Maybe Layout} → Loads ws r → (o : Outcome) × Answers ws en k e o
     go (takes p) = (_, by_plan p)
     go (refuses none) = (_, no_plan none)
 

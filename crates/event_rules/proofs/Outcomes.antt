@@ -1,34 +1,36 @@
 -- What one event can give: a refusal that changes nothing, or an answer that is counted.
-use Prim.Native.Nat.{ℕ, ◌≤◌}
+use Prim.Native.Nat.{◌≤◌}
 use native.Mathlib.Omega.{arith}
 use mathlib.Core.Path.{◌≡◌, refl}
 use mathlib.Core.List.{List}
 use mathlib.Core.Bool.{Bool, true, false, not, cond}
-use mathlib.Core.Option.{Option, none, some}
-use lib.Dec.{leb, eqb}
-use Rattle.event_rules.specs.Types.{Logging, Off, On, Ending, EndingCompletely, Halted, Engine, Counts, Answer, Outcome}
+use Rattle.std.proofs.Common.{Option, None, Some}
+use lib.Dec.{leb}
+use Rattle.event_rules.specs.Types.{Event, frame, tick, Refusal, NoChannel, BadTime, OutOfRange, CountsFull, CodeFault, Logging, Off, On, Ending, EndingCompletely, Halted, Engine, Counts, Answer, Outcome}
 use Rattle.event_rules.specs.declared.Answer.TheVariants as answers
-use Rattle.event_rules.specs.Rules.{Config, Event, frame, tick, time_of, answering, is_halted, ended_by, passes, states, evaluated, recorded_or_idle, Result, gives, faults, acted, triggered, answered, process}
-use Rattle.event_rules.specs.Calls.{no_counts, late, out_of_range, full, event_refusal, answer_refusal, refused, closed, step}
+use Rattle.event_rules.specs.Rules.{Config, time_of, answering, is_halted, ended_by, passes, states, evaluated, recorded_or_idle, Result, gives, faults, acted, triggered, answered, process}
+use Rattle.event_rules.specs.Calls.{no_counts, late, out_of_range, full, refusal_number, event_refusal, answer_refusal, refused, closed, unless_refused, step}
 
--- the refusals of an event on a plan: 21 to 24, or 0 for none
-abbrev Ranged : ℕ → Type 0
-Ranged n = (n ≤ 24) × (1 ≤ n → 21 ≤ n)
+-- the refusals of an event on a plan: 21 to 24
+abbrev Ranged : Option Refusal → Type 0
+Ranged o = (r : Refusal) → o ≡ Some r → (21 ≤ refusal_number r) × (refusal_number r ≤ 24)
 
-or_ranged : (b : Bool) (x y : ℕ) → 21 ≤ x → x ≤ 24 → Ranged y → Ranged (cond b x y)
-or_ranged true x y l h r = (h, λ z. l)
-or_ranged false x y l h r = r
+or_ranged : (b : Bool) (r : Refusal) (o : Option Refusal) → 21 ≤ refusal_number r → refusal_number r ≤ 24 → Ranged o
+    → Ranged (cond b (Some r) o)
+or_ranged true r o l h g s q = let e : r ≡ s = cc in rw (← e) (l, h)
+or_ranged false r o l h g s q = g s q
 
-none_ranged : Ranged 0
-none_ranged = (omega arith, λ z. absurd (omega arith))
+none_ranged : Ranged None
+none_ranged r q = cc
 
-pub refusal_range : (c : Config) (en : Engine) (k : Counts) (e : Event)
-    → (event_refusal c en k e ≤ 24) × (1 ≤ event_refusal c en k e → 21 ≤ event_refusal c en k e)
+pub refusal_range : (c : Config) (en : Engine) (k : Counts) (e : Event) (r : Refusal) → event_refusal c en k e ≡ Some r
+    → (21 ≤ refusal_number r) × (refusal_number r ≤ 24)
 refusal_range c en k (frame f) =
-    or_ranged (leb c.channels f.channel) 21 _ (omega arith) (omega arith)
-    (or_ranged (late en.last f.time) 22 _ (omega arith) (omega arith)
-    (or_ranged (out_of_range f) 23 _ (omega arith) (omega arith) (or_ranged (full k) 24 0 (omega arith) (omega arith) none_ranged)))
-refusal_range c en k (tick u) = or_ranged (late en.last u) 22 0 (omega arith) (omega arith) none_ranged
+    or_ranged (leb c.channels f.channel) NoChannel _ (omega arith) (omega arith)
+    (or_ranged (late en.last f.time) BadTime _ (omega arith) (omega arith)
+    (or_ranged (out_of_range f) OutOfRange _ (omega arith) (omega arith)
+    (or_ranged (full k) CountsFull None (omega arith) (omega arith) none_ranged)))
+refusal_range c en k (tick u) = or_ranged (late en.last u) BadTime None (omega arith) (omega arith) none_ranged
 
 -- one of the four counts
 pub data Count : Type 0 where
@@ -41,7 +43,7 @@ answer_of idle = answers.Idle
 answer_of stopped = answers.Stopped
 answer_of halted = answers.Halted
 
-pub not_refusal : (e : Event) (w : Count) → answer_refusal (answering e (answer_of w)) ≡ none
+pub not_refusal : (e : Event) (w : Count) → answer_refusal (answering e (answer_of w)) ≡ None
 not_refusal (frame f) recorded = refl
 not_refusal (frame f) idle = refl
 not_refusal (frame f) stopped = refl
@@ -72,7 +74,7 @@ pub data ProcessGives (e : Event) : Result → Type 0 where
 
 -- and its outcome
 pub data StepGives (en : Engine) (k : Counts) (e : Event) : Outcome → Type 0 where
-  refuses : (n : ℕ) → StepGives en k e (refused n en k)
+  refuses : (r : Refusal) → StepGives en k e (refused r en k)
   accepts : (w : Count) (after : Engine) → StepGives en k e (closed en k (gives (answering e (answer_of w)) after))
 
 module _ (c : Config) (en : Engine) (e : Event) where
@@ -87,8 +89,8 @@ module _ (c : Config) (en : Engine) (e : Event) where
       go Halted = given idle _
 
   acted_gives : (l : Logging) (o : Option (List Bool)) → ProcessGives e (acted c en l e o)
-  acted_gives l none = fails
-  acted_gives l (some now) = settled_gives (closed en no_counts (acted c en l e (some now))).engine
+  acted_gives l None = fails
+  acted_gives l (Some now) = settled_gives (closed en no_counts (acted c en l e (Some now))).engine
 
   triggered_gives : (l : Logging) → ProcessGives e (triggered c en l e)
   unfolding triggered
@@ -99,9 +101,10 @@ module _ (c : Config) (en : Engine) (e : Event) where
 
   pub step_gives : (k : Counts) → StepGives en k e (step c en k e)
   unfolding step
-  step_gives k = go (eqb (event_refusal c en k e) 0) process_gives
+  step_gives k = go (event_refusal c en k e) process_gives
     where
-      go : (b : Bool) {r : Result} → ProcessGives e r → StepGives en k e (cond b (closed en k r) (refused (event_refusal c en k e) en k))
-      go true (given w after) = accepts w after
-      go true fails = refuses 25
-      go false g = refuses _
+      go : (o : Option Refusal) {r : Result} → ProcessGives e r
+          → StepGives en k e (unless_refused o en k r)
+      go None (given w after) = accepts w after
+      go None fails = refuses CodeFault
+      go (Some x) g = refuses x

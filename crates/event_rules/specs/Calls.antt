@@ -1,18 +1,17 @@
 -- An event call: its refusals, its counts, and what a plan lent to it gives ("Refusal numbers" 20 to 25 of paper 01).
-use Rattle.std.specs.Prelude.{ℕ, ◌+◌, ◌/◌, ◌%◌, ◌^◌, List, map, Bool, false, not, ◌&&◌, ◌||◌, cond, replicate, leb, ltb, eqb}
-use Rattle.std.proofs.Math.Option.{Option, none, some}
+use Rattle.std.specs.Prelude.{ℕ, ◌+◌, ◌/◌, ◌%◌, ◌^◌, List, map, Bool, false, not, ◌&&◌, ◌||◌, cond, replicate, leb, ltb, eqb, Option, None, Some}
 use Rattle.code.specs.Code.{value_on}
 use Rattle.records.specs.Records as plans
 use Rattle.records.specs.Records.{id_top, dlc_top}
 use Rattle.loader.specs.Plan.{Plan, PlanOf}
-use Rattle.event_rules.specs.Types.{Filter, Frame, Off, Engine, Counts, Answer, Outcome}
+use Rattle.event_rules.specs.Types.{Filter, Frame, Event, frame, tick, Off, Engine, Counts, Refusal, NoPlan, NoChannel, BadTime, OutOfRange, CountsFull, CodeFault, Answer, Outcome}
 use Rattle.event_rules.specs.declared.Answer.TheVariants.{Recorded, Idle, Stopped, Halted, Ticked, Refused}
-use Rattle.event_rules.specs.Rules.{Statement, MessageFilter, Config, Event, frame, tick, Result, gives, faults, process}
+use Rattle.event_rules.specs.Rules.{Statement, MessageFilter, Config, Result, gives, faults, process}
 
 -- Fresh: Off, nothing fired, all expressions false, counts 0, last time 0.
 abbrev pub fresh : Engine
 fresh =
-    record { logging = Off; fired = replicate 32 (record { ever = false; at = 0 }); truth = replicate 16 false; started = false; last = 0 }
+    record { logging = Off; fired = replicate 32 None; truth = replicate 16 false; started = false; last = 0 }
 
 abbrev pub no_counts : Counts
 no_counts = record { recorded = 0; idle = 0; stopped = 0; halted = 0 }
@@ -29,13 +28,24 @@ out_of_range f = not f.error && (ltb (id_top f.ext) f.id || ltb dlc_top f.dlc)
 abbrev pub full : Counts → Bool
 full k = leb 4294967295 (k.recorded + k.idle + k.stopped + k.halted)
 
--- 21 to 24 in number order, for ticks only 22; 0 is none
-abbrev pub frame_refusal : ℕ → ℕ → Counts → Frame → ℕ
-frame_refusal n last k f = cond (leb n f.channel) 21 (cond (late last f.time) 22 (cond (out_of_range f) 23 (cond (full k) 24 0)))
+-- the paper's number for each refusal
+abbrev pub refusal_number : Refusal → ℕ
+refusal_number r = elim r [ NoPlan ↦ 20 | NoChannel ↦ 21 | BadTime ↦ 22 | OutOfRange ↦ 23 | CountsFull ↦ 24 | CodeFault ↦ 25 ]
 
-abbrev pub event_refusal : Config → Engine → Counts → Event → ℕ
-event_refusal c en k (frame f) = frame_refusal c.channels en.last k f
-event_refusal c en k (tick u) = cond (late en.last u) 22 0
+-- 21 to 24 in number order, for ticks only 22
+abbrev pub frame_refusal : ℕ → ℕ → Counts → Frame → Option Refusal
+frame_refusal n last k f =
+    cond (leb n f.channel) (Some NoChannel)
+    (cond (late last f.time) (Some BadTime)
+    (cond (out_of_range f) (Some OutOfRange)
+    (cond (full k) (Some CountsFull) None)))
+
+abbrev pub refusal_from : ℕ → ℕ → Counts → Event → Option Refusal
+refusal_from n last k (frame f) = frame_refusal n last k f
+refusal_from n last k (tick u) = cond (late last u) (Some BadTime) None
+
+abbrev pub event_refusal : Config → Engine → Counts → Event → Option Refusal
+event_refusal c en k e = refusal_from c.channels en.last k e
 
 -- four counts (Recorded, Idle, Stopped, Halted) are the numbers of such answers
 abbrev pub counted : Counts → Answer → Counts
@@ -44,23 +54,29 @@ counted k Idle = record { recorded = k.recorded; idle = k.idle + 1; stopped = k.
 counted k Stopped = record { recorded = k.recorded; idle = k.idle; stopped = k.stopped + 1; halted = k.halted }
 counted k Halted = record { recorded = k.recorded; idle = k.idle; stopped = k.stopped; halted = k.halted + 1 }
 counted k Ticked = k
-counted k (Refused n) = k
+counted k (Refused r) = k
 
 -- the paper's refusal number and place for each answer
 abbrev pub answer_refusal : Answer → Option (ℕ × ℕ)
-answer_refusal a = elim a [ Recorded ↦ none | Idle ↦ none | Stopped ↦ none | Halted ↦ none | Ticked ↦ none | Refused n ↦ some (n, 0) ]
+answer_refusal a =
+    elim a [ Recorded ↦ None | Idle ↦ None | Stopped ↦ None | Halted ↦ None | Ticked ↦ None | Refused r ↦ Some (refusal_number r, 0) ]
 
 -- a refused event changes nothing
-abbrev pub refused : ℕ → Engine → Counts → Outcome
-refused n en k = record { answer = Refused n; engine = en; counts = k }
+abbrev pub refused : Refusal → Engine → Counts → Outcome
+refused r en k = record { answer = Refused r; engine = en; counts = k }
 
 -- 25: expression code fault while running
 abbrev pub closed : Engine → Counts → Result → Outcome
-closed en k faults = refused 25 en k
+closed en k faults = refused CodeFault en k
 closed en k (gives a after) = record { answer = a; engine = after; counts = counted k a }
 
+-- 21 to 24, else what the rules give
+abbrev pub unless_refused : Option Refusal → Engine → Counts → Result → Outcome
+unless_refused None en k gave = closed en k gave
+unless_refused (Some r) en k gave = refused r en k
+
 unfoldable pub step : Config → Engine → Counts → Event → Outcome
-step c en k e = cond (eqb (event_refusal c en k e) 0) (closed en k (process c en e)) (refused (event_refusal c en k e) en k)
+step c en k e = unless_refused (event_refusal c en k e) en k (process c en e)
 
 -- ---- the configuration of a plan: its expressions are its code, run on the triggers' states
 abbrev pub statement_of : plans.PlanStatement → Statement
@@ -90,4 +106,4 @@ config_of p =
 -- an event call lent words that the loader would not take gives 20; else the rules decide
 pub data Answers (ws : List ℕ) (en : Engine) (k : Counts) (e : Event) : Outcome → Type 0 where
   by_plan : (p : PlanOf ws) → Answers ws en k e (step (config_of p.plan) en k e)
-  no_plan : (PlanOf ws → ⊥) → Answers ws en k e (refused 20 en k)
+  no_plan : (PlanOf ws → ⊥) → Answers ws en k e (refused NoPlan en k)

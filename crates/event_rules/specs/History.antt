@@ -1,9 +1,8 @@
 -- Paper 01, "One event" (the counts) and "What the contracts settle" (the counts of the history): lists of events, what the rules give for
 -- them, and event calls one after the other.
-use Rattle.std.specs.Prelude.{ℕ, ◌+◌, List, [], ◌∷◌}
-use Rattle.std.proofs.Math.Option.{Option, none, some}
-use Rattle.event_rules.specs.Types.{Engine, Counts, Outcome}
-use Rattle.event_rules.specs.Rules.{Config, Event, frame, tick}
+use Rattle.std.specs.Prelude.{ℕ, ◌+◌, List, [], ◌∷◌, Option, None, Some}
+use Rattle.event_rules.specs.Types.{Event, frame, tick, Engine, Counts, Outcome}
+use Rattle.event_rules.specs.Rules.{Config}
 use Rattle.event_rules.specs.Calls.{counted, answer_refusal, step, Answers}
 
 -- what the rules give for a list of events: each finds the state and the counts that the one before left
@@ -35,8 +34,8 @@ abbrev pub sum_of : Counts → ℕ
 sum_of k = k.recorded + k.idle + k.stopped + k.halted
 
 abbrev pub accepted : Event → Option (ℕ × ℕ) → ℕ
-accepted (frame f) none = 1
-accepted (frame f) (some refusal) = 0
+accepted (frame f) None = 1
+accepted (frame f) (Some refusal) = 0
 accepted (tick u) refusal = 0
 
 unfoldable pub accepted_frames : List Event → List Outcome → ℕ

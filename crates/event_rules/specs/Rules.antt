@@ -1,18 +1,17 @@
 -- "One event" of paper 01: its rules over a configuration, in its order and words. A plan gives one configuration, a file's own tables
 -- another.
-use Rattle.std.specs.Prelude.{ℕ, ◌+◌, ◌*◌, Bool, true, false, not, ◌&&◌, ◌||◌, cond, length, drop, leb, ltb, eqb}
+use Rattle.std.specs.Prelude.{ℕ, ◌+◌, ◌*◌, Bool, true, false, not, ◌&&◌, ◌||◌, cond, length, drop, leb, ltb, eqb, Option, None, Some}
 use mathlib.Core.List.{List, [], ◌∷◌, ◌++◌, zip_with}
 use Rattle.std.specs.Bool.{beq}
-use Rattle.std.proofs.Math.Option.{Option, none, some}
-use Rattle.event_rules.specs.Types.{Value, Is, Fault, Cause, Id, Length, Error, Startup, Timeout, Forever, Ms, Trigger, Effect, Pass, Stop, Action, StartLog, StopLog, StopLogCompletely, Frame, Logging, Off, On, Ending, EndingCompletely, Halted, Firing, Engine, Answer}
+use Rattle.event_rules.specs.Types.{Cause, Id, Length, Error, Startup, Timeout, Forever, Ms, Trigger, Effect, Pass, Stop, Action, StartLog, StopLog, StopLogCompletely, Frame, Event, frame, tick, Logging, Off, On, Ending, EndingCompletely, Halted, Engine, Answer}
 use Rattle.event_rules.specs.declared.Answer.TheVariants as answers
 use Rattle.event_rules.specs.declared.Answer.TheVariants.{Recorded, Idle}
 
--- `holds` evaluates the statement's expression on the triggers' states
+-- `holds` evaluates the statement's expression on the triggers' states; None is a fault of its code
 pub record Statement : Type 0 where
   pub post : ℕ
   pub actions : List Action
-  pub holds : List Bool → Value
+  pub holds : List Bool → Option Bool
 
 -- A message filter: the channels it is on and the length codes it covers are told by predicates.
 pub record MessageFilter : Type 0 where
@@ -30,11 +29,7 @@ pub record Config : Type 0 where
   pub filters : List MessageFilter
   pub statements : List Statement
 
--- Events: a frame (channel, time in µs, error, remote, ext, id, dlc, data) or a tick (time).
-pub data Event : Type 0 where
-  frame : Frame → Event
-  tick : ℕ → Event
-
+-- the time of an event: a frame or a tick (`Event`, in src/lib.rt)
 abbrev pub time_of : Event → ℕ
 time_of (frame f) = f.time
 time_of (tick u) = u
@@ -71,14 +66,14 @@ filters_on pass channel (x ∷ xs) =
     cond (beq (is_pass x.effect) pass && x.on channel) (x ∷ filters_on pass channel xs) (filters_on pass channel xs)
 
 unfoldable pub first_match : Frame → List MessageFilter → Option Effect
-first_match f [] = none
-first_match f (x ∷ xs) = cond (matches f x) (some x.effect) (first_match f xs)
+first_match f [] = None
+first_match f (x ∷ xs) = cond (matches f x) (Some x.effect) (first_match f xs)
 
 -- No match: stopped if the channel has a pass filter, else passed.
 abbrev pub decides : Option Effect → List MessageFilter → Bool
-decides (some e) passing = is_pass e
-decides none [] = true
-decides none (x ∷ passing) = false
+decides (Some e) passing = is_pass e
+decides None [] = true
+decides None (x ∷ passing) = false
 
 -- Filter a frame: pass filters on its channel in order, then stop filters; the first match decides.
 unfoldable pub passes : List MessageFilter → Event → Bool
@@ -99,26 +94,27 @@ fires first (frame f) (Length channel lower upper) = not f.error && eqb channel 
 fires first (frame f) (Error channel) = f.error && eqb channel f.channel
 
 -- a later event at u, if its last firing t has u < t + 1000 x timeout, or the timeout is -1
-abbrev pub lasts : ℕ → Firing → Timeout → Bool
-lasts u l Forever = l.ever
-lasts u l (Ms timeout) = l.ever && ltb u (l.at + 1000 * timeout)
+abbrev pub lasts : ℕ → Option ℕ → Timeout → Bool
+lasts u None timeout = false
+lasts u (Some t) Forever = true
+lasts u (Some t) (Ms timeout) = ltb u (t + 1000 * timeout)
 
 -- A trigger is true during the event that fires it, and at such a later event; `ls` are the last firings.
-unfoldable pub states : List Trigger → Bool → Event → List Firing → List Bool
+unfoldable pub states : List Trigger → Bool → Event → List (Option ℕ) → List Bool
 states ts first e ls = zip_with (λ t l. fires first e t.cause || lasts (time_of e) l t.timeout) ts ls
 
-unfoldable pub firings : List Trigger → Bool → Event → List Firing → List Firing
-firings ts first e ls = zip_with (λ t l. cond (fires first e t.cause) (record { ever = true; at = time_of e }) l) ts ls
+unfoldable pub firings : List Trigger → Bool → Event → List (Option ℕ) → List (Option ℕ)
+firings ts first e ls = zip_with (λ t l. cond (fires first e t.cause) (Some (time_of e)) l) ts ls
     ++ drop (length ts) ls
 
 -- 6. All expressions are evaluated.
-abbrev pub and_then : Value → Option (List Bool) → Option (List Bool)
-and_then Fault vs = none
-and_then (Is v) none = none
-and_then (Is v) (some vs) = some (v ∷ vs)
+abbrev pub and_then : Option Bool → Option (List Bool) → Option (List Bool)
+and_then None vs = None
+and_then (Some v) None = None
+and_then (Some v) (Some vs) = Some (v ∷ vs)
 
 unfoldable pub evaluated : List Statement → List Bool → Option (List Bool)
-evaluated [] now = some []
+evaluated [] now = Some []
 evaluated (s ∷ ss) now = and_then (s.holds now) (evaluated ss now)
 
 -- Start: Off or ending becomes On. Stop: On becomes ending at u + 1000 x posttrigger. Complete stop: Off becomes Halted; On becomes ending
@@ -161,8 +157,8 @@ settled c en e now l = gives (answering e (recorded_or_idle l)) (record {
 
 -- 6
 abbrev pub acted : Config → Engine → Logging → Event → Option (List Bool) → Result
-acted c en l e none = faults
-acted c en l e (some now) =
+acted c en l e None = faults
+acted c en l e (Some now) =
     settled c en e now (ended_by (time_of e) (actions c.statements (time_of e) (zip_with (λ v was. v && not was) now en.truth) l))
 
 -- 5

@@ -1,9 +1,16 @@
 // The rules of one event: the types of its state, its events and its answers; definitions and theorems.
 //
 // Promises: specs/Rules.antt states the rules over a configuration, once, specs/Calls.antt an event call, specs/History.antt lists of calls; the theorems on
-// them stand in proofs/.
-// May not touch: anything; it has no code.
+// them stand in proofs/. The code is what a type says of itself: an event's time, a refusal's number, and how a program
+// prints it, which is held to the stored output of engine_cases.
+// May not touch: anything.
 #![tactic(auto)]
+
+ghost use Rattle.std.specs.Prelude.{◌≡◌};
+ghost use Rattle.event_rules.specs.Rules.{time_of};
+ghost use Rattle.event_rules.specs.Calls.{refusal_number};
+
+use std::fmt;
 
 // The logging state; an ending knows when it ends.
 #[derive(Clone, Copy)]
@@ -13,6 +20,18 @@ pub enum Logging {
     Ending(u64),
     EndingCompletely(u64),
     Halted,
+}
+
+impl fmt::Display for Logging {
+    fn fmt<W: fmt::Write>(&self, f: &mut fmt::Formatter<W>) -> fmt::Result {
+        match self {
+            Logging::Off => f.write_str("Off"),
+            Logging::On => f.write_str("On"),
+            Logging::Ending(e) => write!(f, "ending at {e}"),
+            Logging::EndingCompletely(e) => write!(f, "ending completely at {e}"),
+            Logging::Halted => f.write_str("Halted"),
+        }
+    }
 }
 
 #[derive(Clone, Copy)]
@@ -27,18 +46,30 @@ pub struct Frame {
     pub bytes: [u8; 8],
 }
 
-// A trigger's last firing, if it ever fired.
+// A frame, or a tick at a time.
 #[derive(Clone, Copy)]
-pub struct Firing {
-    pub ever: bool,
-    pub at: u64,
+pub enum Event {
+    Frame(Frame),
+    Tick(u64),
 }
 
-// The engine's state: last firings by trigger, last truths by statement, whether an event came to the triggers, the last accepted time.
+impl Event {
+    pub fn time(self) -> u64
+        ensures { result ≡ time_of self }
+    {
+        match self {
+            Event::Frame(f) => f.time,
+            Event::Tick(u) => u,
+        }
+    }
+}
+
+// The engine's state: when each trigger fired last, if it ever did; last truths by statement; whether an event came to the triggers; the last accepted
+// time.
 #[derive(Clone, Copy)]
 pub struct Engine {
     pub logging: Logging,
-    pub fired: [Firing; 32],
+    pub fired: [Option<u64>; 32],
     pub truth: [bool; 16],
     pub started: bool,
     pub last: u64,
@@ -53,7 +84,42 @@ pub struct Counts {
     pub halted: u32,
 }
 
-// Refused holds the paper's number, 20 to 25; its place is 0.
+impl fmt::Display for Counts {
+    fn fmt<W: fmt::Write>(&self, f: &mut fmt::Formatter<W>) -> fmt::Result {
+        write!(
+            f,
+            "{} {} {} {}",
+            self.recorded, self.idle, self.stopped, self.halted
+        )
+    }
+}
+
+// Why an event is refused, each with its number.
+#[derive(Clone, Copy)]
+pub enum Refusal {
+    // the words are no plan
+    NoPlan = 20,
+    // the frame's channel is not below the plan's number of channels
+    NoChannel = 21,
+    // a time below the last accepted one, or above 10^16
+    BadTime = 22,
+    // identifier or dlc out of range
+    OutOfRange = 23,
+    // the four counts have no room
+    CountsFull = 24,
+    // a fault in expression code
+    CodeFault = 25,
+}
+
+impl Refusal {
+    pub fn number(self) -> u8
+        ensures { result ≡ refusal_number self }
+    {
+        self as u8
+    }
+}
+
+// A refusal's place is 0.
 #[derive(Clone, Copy)]
 pub enum Answer {
     Recorded,
@@ -61,7 +127,20 @@ pub enum Answer {
     Stopped,
     Halted,
     Ticked,
-    Refused(u32),
+    Refused(Refusal),
+}
+
+impl fmt::Display for Answer {
+    fn fmt<W: fmt::Write>(&self, f: &mut fmt::Formatter<W>) -> fmt::Result {
+        match self {
+            Answer::Recorded => f.write_str("Recorded"),
+            Answer::Idle => f.write_str("Idle"),
+            Answer::Stopped => f.write_str("Stopped"),
+            Answer::Halted => f.write_str("Halted"),
+            Answer::Ticked => f.write_str("Ticked"),
+            Answer::Refused(refusal) => write!(f, "refused {}", refusal.number()),
+        }
+    }
 }
 
 #[derive(Clone, Copy)]

@@ -1,127 +1,108 @@
-// The tokens of an expression's text, as numbers: 0 to 31 is a trigger, 32 AND, 33 OR, 34 NOT, 35 and 36 the brackets, 37 a word that names no trigger.
+// The tokens of an expression's text, as numbers: 0 to 31 is a trigger, 37 a word that names no trigger, and those between have names below.
+// They are numbers and no enum: a plan's words of code are the same numbers, so code is written as it is read. Brackets and 37 are no words of code, and
+// numbers like the others, so that tokens are one list of words.
 //
 // Promises: `tokenise` answers every input, by value and to the last word: the tokens are those of crates/grammar/specs/Lex.antt. It knows no grammar.
-ghost use Rattle.std.specs.Prelude.{◌≡◌, ◌<◌, length, take, drop};
+ghost use Rattle.std.specs.Prelude.{◌≡◌, ◌<◌, length, take, drop, zip};
+ghost use Rattle.std.specs.List.{position_from};
 ghost use Rattle.text.specs.Texts.{same};
 ghost use Rattle.grammar.specs.Lex.{token_of};
-ghost use Rattle.grammar.specs.TokensCode.{names_in, find, number_of, LexemeAt, lexed, unfit_tokens};
+ghost use Rattle.grammar.specs.TokensCode.{names_in, find, number_of, LexemeAt, lexed};
 
-use grammar::{Lexed, Lexeme, MOST};
+use grammar::{Lexeme, MOST, Spans, Words};
 use text::{letters, runs, texts};
 
 // The most triggers.
-const TRIGGERS: u32 = 32;
+const TRIGGERS: usize = 32;
 
-const UNKNOWN: u32 = 37;
+pub(crate) const AND: u32 = 32;
 
-// Is the word what stands in the file from a start up to an end?
-fn is_named(word: &[u8], file: &[u8], start: usize, end: usize) -> bool
-    ensures { result ≡ same word.now (drop start (take end file.now)) }
+pub(crate) const OR: u32 = 33;
+
+pub(crate) const NOT: u32 = 34;
+
+pub(crate) const OPEN: u32 = 35;
+
+pub(crate) const CLOSE: u32 = 36;
+
+pub(crate) const UNKNOWN: u32 = 37;
+
+// Which of the names a word is first.
+fn first_named(word: &[u8], names: Spans) -> Option<usize>
+    ensures { result ≡ position_from (λ p. same word.now (drop p.0 (take p.1 names.entry.file.now))) 0 (take 32 (zip names.entry.starts.now names.entry.ends.now)) }
 {
-    let e = lists::least(end, file.len());
-    let a = lists::least(start, e);
-    texts::same_text(word, &file[a..e])
+    let file = names.file;
+    let mut spans = names.starts.iter().zip(names.ends).take(TRIGGERS);
+    spans.position(|(start, end)| texts::same_text(word, grammar::cut(file, *start, *end)))
 }
 
 // The number of the first trigger that a word names, or 37.
-fn find_name(word: &[u8], file: &[u8], starts: &[usize], ends: &[usize]) -> u32
-    ensures { result ≡ find (names_in file.now starts.now ends.now) word.now 0 }
+fn find_name(word: &[u8], names: Spans) -> u32
+    ensures { result ≡ find (names_in names.entry.file.now names.entry.starts.now names.entry.ends.now) word.now 0 }
 {
-    let mut i = 0;
-    let mut n: u32 = 0;
-    while n < TRIGGERS {
-        if starts.len() <= i {
-            return UNKNOWN;
-        }
-        if ends.len() <= i {
-            return UNKNOWN;
-        }
-        let start = starts[i];
-        let end = ends[i];
-        if is_named(word, file, start, end) {
-            return n;
-        }
-        i += 1;
-        n += 1;
+    match first_named(word, names) {
+        Some(n) => n as u32,
+        None => UNKNOWN,
     }
-    UNKNOWN
 }
 
 // The number of a word.
-fn word_number(w: &[u8], file: &[u8], starts: &[usize], ends: &[usize]) -> u32
-    ensures { result ≡ number_of (names_in file.now starts.now ends.now) (token_of w.now) }
+fn word_number(w: &[u8], names: Spans) -> u32
+    ensures { result ≡ number_of (names_in names.entry.file.now names.entry.starts.now names.entry.ends.now) (token_of w.now) }
 {
     if texts::same_text(w, b"AND") {
-        return 32;
+        return AND;
     }
     if texts::same_text(w, b"OR") {
-        return 33;
+        return OR;
     }
     if texts::same_text(w, b"NOT") {
-        return 34;
+        return NOT;
     }
-    find_name(w, file, starts, ends)
+    find_name(w, names)
 }
 
-fn next_token(text: &[u8], at: usize, file: &[u8], starts: &[usize], ends: &[usize]) -> Lexeme
+fn next_token(text: &[u8], at: usize, names: Spans) -> Option<Lexeme>
     requires { at < length text.now }
-    ensures { LexemeAt (names_in file.now starts.now ends.now) text.now at result }
+    ensures { LexemeAt (names_in names.entry.file.now names.entry.starts.now names.entry.ends.now) text.now at result }
 {
-    let b = text[at];
-    if letters::is_name(b) {
-        let end = runs::name_end(text, at);
-        return Lexeme::Next(word_number(&text[at..end], file, starts, ends), end);
-    }
-    if letters::is_blank(b) {
-        return Lexeme::Skip;
-    }
-    if b == b'(' {
-        return Lexeme::Next(35, at + 1);
-    }
-    if b == b')' {
-        return Lexeme::Next(36, at + 1);
-    }
-    Lexeme::Wrong
-}
-
-fn no_tokens() -> Lexed
-    ensures { result ≡ unfit_tokens }
-{
-    Lexed {
-        fine: false,
-        count: 0,
-        tokens: [0; MOST],
+    match text[at] {
+        b if letters::is_name(b) => {
+            let end = runs::name_end(text, at);
+            let token = Some(word_number(&text[at..end], names));
+            Some(Lexeme { token, end })
+        }
+        b if letters::is_blank(b) => Some(Lexeme {
+            token: None,
+            end: at + 1,
+        }),
+        b'(' => Some(Lexeme {
+            token: Some(OPEN),
+            end: at + 1,
+        }),
+        b')' => Some(Lexeme {
+            token: Some(CLOSE),
+            end: at + 1,
+        }),
+        _ => None,
     }
 }
 
-// The numbers of a text's tokens, where the triggers' names stand in the file from `starts` up to `ends`.
-pub fn tokenise(text: &[u8], file: &[u8], starts: &[usize], ends: &[usize]) -> Lexed
-    ensures { result ≡ lexed (names_in file.now starts.now ends.now) text.now }
+// The numbers of a text's tokens, where the triggers' names stand in a file. Each turn goes on by a token, so no iterator of the bytes serves.
+pub fn tokenise(text: &[u8], names: Spans) -> Option<Words>
+    ensures { result ≡ lexed (names_in names.entry.file.now names.entry.starts.now names.entry.ends.now) text.now }
 {
-    let mut tokens = [0u32; MOST];
-    let mut count = 0;
+    let mut out = Words::new();
     let mut at = 0;
     while at < text.len() {
-        match next_token(text, at, file, starts, ends) {
-            Lexeme::Next(t, i) => {
-                if count == MOST {
-                    return no_tokens();
-                }
-                tokens[count] = t;
-                count += 1;
-                at = i;
+        let lexeme = next_token(text, at, names)?;
+        at = lexeme.end;
+        if let Some(token) = lexeme.token {
+            if out.count == MOST {
+                return None;
             }
-            Lexeme::Skip => {
-                at += 1;
-            }
-            Lexeme::Wrong => {
-                return no_tokens();
-            }
+            out.push(token);
         }
     }
-    Lexed {
-        fine: true,
-        count,
-        tokens,
-    }
+    Some(out)
 }

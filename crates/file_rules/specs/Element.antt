@@ -1,11 +1,10 @@
 -- Paper 01, "Values" and "Refusal numbers": a known element, its values, its own faults, and what its numbers are read from.
-use Rattle.std.specs.Prelude.{ℕ, ◌≡◌, ◌⊎◌, List, [], ◌∷◌, ◌++◌, Bool, true, false, not, cond, ◌&&◌, ◌||◌, leb, ltb, eqb, length}
+use Rattle.std.specs.Prelude.{Result, Ok, Err, ℕ, ◌≡◌, ◌⊎◌, List, [], ◌∷◌, ◌++◌, Bool, true, false, not, cond, ◌&&◌, ◌||◌, leb, ltb, eqb, length}
 use Prim.Native.String.{String}
 use Rattle.text.specs.Texts.{bytes, same}
 use Rattle.values.specs.declared.Sort.TheVariants.{Numeric, Timeout}
-use Rattle.values.specs.declared.Worth.{Worth}
-use Rattle.values.specs.declared.Worth.TheVariants.{Good, Refused}
-use Rattle.values.specs.Values.{worth_of}
+use Rattle.values.specs.declared.Unfit.{Unfit}
+use Rattle.values.specs.Values.{refusal_of, worth_of}
 use Rattle.values.specs.Numbers.{IsNumber}
 use Rattle.shape.specs.Shape.{Attribute, Items}
 use Rattle.shape.specs.Text.{joined, trimmed}
@@ -24,19 +23,19 @@ pub record Known : Type 0 where
 
 -- ---- its values
 -- what a value is worth by the rule for its attribute; an attribute that no rule names has given 5 before this is asked
-unfoldable pub worth_by : List Rule → Attribute → Worth
-worth_by [] a = Good 0
+unfoldable pub worth_by : List Rule → Attribute → Result ℕ Unfit
+worth_by [] a = Ok 0
 worth_by (r ∷ rs) a = cond (same a.name (bytes r.name)) (worth_of r.sort a.value) (worth_by rs a)
 
-abbrev pub is_bad : Worth → Bool
-is_bad w = elim w [ Good v ↦ false | Refused n ↦ eqb n 6 ]
+abbrev pub is_bad : Result ℕ Unfit → Bool
+is_bad w = elim w [ Ok v ↦ false | Err u ↦ eqb (refusal_of u) 6 ]
 
-abbrev pub is_not_carried : Worth → Bool
-is_not_carried w = elim w [ Good v ↦ false | Refused n ↦ eqb n 7 ]
+abbrev pub is_not_carried : Result ℕ Unfit → Bool
+is_not_carried w = elim w [ Ok v ↦ false | Err u ↦ eqb (refusal_of u) 7 ]
 
 -- the number that it gives. 0 where it gives none is never seen: such a value has given 6 or 7 before the number is asked for
-abbrev pub good_of : Worth → ℕ
-good_of w = elim w [ Good v ↦ v | Refused n ↦ 0 ]
+abbrev pub good_of : Result ℕ Unfit → ℕ
+good_of w = elim w [ Ok v ↦ v | Err u ↦ 0 ]
 
 -- the value of the attribute n, and the number that it gives; 0 where it gives none
 unfoldable pub given_value : List ℕ → List Attribute → List ℕ
@@ -56,7 +55,7 @@ abbrev pub text_of : Known → List ℕ
 text_of k = trimmed (joined k.items)
 
 -- "CHANNEL: text a number 0 to 4"
-abbrev pub channel_of : Known → Worth
+abbrev pub channel_of : Known → Result ℕ Unfit
 channel_of k = worth_of (0 to 4) (text_of k)
 
 -- ---- its faults: a number and a place

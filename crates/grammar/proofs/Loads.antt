@@ -3,12 +3,12 @@ use Prim.Native.Nat.{ℕ, ◌≤◌, ◌<◌}
 use native.Mathlib.Omega.{arith}
 use mathlib.Core.Path.{◌≡◌, refl, sym, ap, fun_ext, ◌∙◌}
 use mathlib.Core.Bool.{Bool, true, false}
-use mathlib.Core.Option.{none, some}
+use mathlib.Core.Option.{none}
+use Rattle.std.specs.Prelude.{Some}
 use mathlib.Core.List.{List, [], ◌∷◌, ◌++◌, map}
 use lib.ListN.{length, get_or, length-map}
 use Rattle.code.specs.Code.{Op, word_of, limit, run_words, only_value, value_on, Runs}
 use Rattle.code.specs.HeightsCode.{sound_code}
-use Rattle.code.specs.declared.Value.TheVariants.{Is}
 use Rattle.code.proofs.Heights.{Below, Pushes, pushes_known, words_run}
 use Rattle.code.proofs.Sound.{code_sound, sound_code_lem}
 use Rattle.grammar.specs.Tree.{Operator, or, and, Chain, only, join, Operand, chain, name, negate, bracket, Expression, print, mean, code, coded, joiner}
@@ -54,7 +54,7 @@ module _ (names : List (List ℕ)) {text : List ℕ} {e : Expression (List ℕ)}
       (pushes (λ (w : NameOf names). number_in names w.0) (length names) (λ w. number_low names w.0 w.1) x)) e n
 
   its_run : (v : ℕ → Bool)
-      → run_words limit v (map word_of (code (number_in names) e)) [] ≡ some (mean e (λ w. v (number_in names w)) ∷ [])
+      → run_words limit v (map word_of (code (number_in names) e)) [] ≡ Some (mean e (λ w. v (number_in names w)) ∷ [])
   its_run v =
       words_run limit (length names) v few (code (number_in names) e) [] pushes_named
       ∙ nineteen (number_in names) e v r.shallow limit (omega arith)
@@ -74,9 +74,9 @@ module _ (names : List (List ℕ)) {text : List ℕ} {e : Expression (List ℕ)}
   pub runs : (v : ℕ → Bool) → Runs v (map word_of (code (number_in names) e))
   runs = sound_code_lem (length names) (map word_of (code (number_in names) e)) loads
 
-  pub value : (states : List Bool) → value_on states (map word_of (code (number_in names) e)) ≡ Is (mean e (λ w. state_of names states w))
+  pub value : (states : List Bool) → value_on states (map word_of (code (number_in names) e)) ≡ Some (mean e (λ w. state_of names states w))
   unfolding value_on
-  value states = ap only_value (its_run (λ i. get_or states i false)) ∙ ap Is (mean_named states)
+  value states = ap only_value (its_run (λ i. get_or states i false)) ∙ ap Some (mean_named states)
 
 -- What is true of a text that compiles: its words are those of the one tree, 1 to 64, and no more than it has tokens; the loader takes
 -- them; their value is what the tree says.
@@ -89,7 +89,7 @@ pub record GoodCode (names : List (List ℕ)) (text ws : List ℕ) : Type 0 wher
   pub few : length ws ≤ 64
   pub loads : sound_code (length names) ws ≡ true
   pub runs : (v : ℕ → Bool) → Runs v ws
-  pub value : (states : List Bool) → value_on states ws ≡ Is (mean tree (λ w. state_of names states w))
+  pub value : (states : List Bool) → value_on states ws ≡ Some (mean tree (λ w. state_of names states w))
 
 pub good : {names : List (List ℕ)} {text ws : List ℕ} → length names ≤ 32 → Becomes names text none ws → GoodCode names text ws
 good {names} few (compiles e r n) =

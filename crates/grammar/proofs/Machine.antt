@@ -3,7 +3,7 @@ use Prim.Native.Nat.{ℕ, zero, suc, ◌+◌, ◌*◌, ◌≤◌}
 use native.Mathlib.Omega.{arith}
 use mathlib.Core.Path.{◌≡◌, refl, sym, ap, ◌∙◌}
 use mathlib.Core.Bool.{Bool, true}
-use mathlib.Core.Option.{none, some}
+use Rattle.std.specs.Prelude.{None, Some}
 use mathlib.Core.List.{List, [], ◌∷◌, ◌++◌, append_assoc, append-nil}
 use lib.ListN.{length, length-append}
 use borrow.Author.Tests.{lt-ltb}
@@ -45,13 +45,13 @@ module _ {N : Type 0} (num : N → ℕ) (room : ℕ) (v : ℕ → Bool) where
 
   -- on any stack: the meaning comes to lie on top, and nothing below changes
   pub run_on : (e : Expression N) (st : List Bool) → length st + 2 * depth e + 3 ≤ room
-      → run_ops room v (code num e) st ≡ some (mean e (λ w. v (num w)) ∷ st)
+      → run_ops room v (code num e) st ≡ Some (mean e (λ w. v (num w)) ∷ st)
   unfolding run_ops
   run_on e st h = ap (λ (c : List Op). run_ops room v c st) (sym (append-nil (code num e))) ∙ run_chain e [] st h
 
 -- 19 values are enough where brackets stand at most 8 deep, and 24 all the more
 pub nineteen : {N : Type 0} (num : N → ℕ) (e : Expression N) (v : ℕ → Bool) → depth e ≤ 8 → (room : ℕ) → 19 ≤ room
-    → run_ops room v (code num e) [] ≡ some (mean e (λ w. v (num w)) ∷ [])
+    → run_ops room v (code num e) [] ≡ Some (mean e (λ w. v (num w)) ∷ [])
 nineteen num e v h room g = run_on num room v e [] (omega arith)
 
 -- `a OR b AND (a OR b AND ( .. c))`, k brackets deep
@@ -60,8 +60,8 @@ steep zero = join (only (chain (only (name 0)))) (chain (join (only (name 1)) (n
 steep (suc k) = join (only (chain (only (name 0)))) (chain (join (only (name 1)) (bracket (steep k))))
 
 -- the bound is reached: 8 deep, in 53 tokens, takes 19 values and not 18
-pub tight : (length (print (steep 8)) ≡ 53) × (depth (steep 8) ≡ 8) × (run_ops 18 (λ i. true) (code (λ i. i) (steep 8)) [] ≡ none)
-    × (run_ops 19 (λ i. true) (code (λ i. i) (steep 8)) [] ≡ some (true ∷ []))
+pub tight : (length (print (steep 8)) ≡ 53) × (depth (steep 8) ≡ 8) × (run_ops 18 (λ i. true) (code (λ i. i) (steep 8)) [] ≡ None)
+    × (run_ops 19 (λ i. true) (code (λ i. i) (steep 8)) [] ≡ Some (true ∷ []))
 unfolding steep print depth code run_ops step_op
 tight = (refl, refl, refl, refl)
 

@@ -4,14 +4,14 @@ use native.Mathlib.Omega.{arith}
 use native.Mathlib.Numerals.{add-one}
 use mathlib.Core.Path.{◌≡◌, refl, sym, ap, subst, ◌∙◌}
 use mathlib.Core.Bool.{Bool, true, false, false≢true}
-use mathlib.Core.Logic.{◌⊎◌, inl, inr}
 use mathlib.Core.List.{List, [], ◌∷◌, ◌++◌}
+use Rattle.std.specs.Prelude.{Some, zip, unwrap_or}
+use Rattle.std.specs.List.{position_from}
 use lib.ListN.{length, take, drop, get_or, length-take, drop_of_length-le}
 use lib.Seq.{take_all, take-nil}
 use Rattle.lists.specs.Lists.{any}
 use Rattle.lists.proofs.Cases.{by_cases, le_or_lt}
 use Rattle.text.specs.Texts.{same}
-use Rattle.text.proofs.Spans.{drop_one}
 use Rattle.grammar.specs.Lex.{Token, word, AND, OR, NOT, open', close'}
 use Rattle.grammar.specs.Tree.{Operator, or, and, Chain, only, join, Operand, chain, name, negate, bracket, Expression, mark, print, printed}
 use Rattle.grammar.specs.TokensCode.{spans, names_in, find}
@@ -42,37 +42,26 @@ cut a e f {a'} {e'} p q =
     (λ h. let k : a' ≡ a = omega arith in ap (λ (n : ℕ). drop n (take e f)) k)
     (λ h. drop_of_length-le (take e f) {i = a'} (omega arith) ∙ sym (drop_of_length-le (take e f) {i = a} (omega arith)))
 
--- the names from place i on, where i names have been passed
-module _ (f ss es w : List ℕ) (i : ℕ) where
-  here : i < length ss → i < length es → i < 32
-      → take (32 - i) (spans f (drop i ss) (drop i es)) ≡ drop (get_or ss i 0) (take (get_or es i 0) f)
-      ∷ take (32 - (i + 1)) (spans f (drop (i + 1) ss) (drop (i + 1) es))
-  unfolding spans
-  here h g p = let q : 32 - i ≡ suc (32 - (i + 1)) = omega arith in rw (drop_one ss i h, drop_one es i g, q)
+-- the number of a word is the place of the first name that it is, of the first k, or 37
+module _ (f w : List ℕ) where
+  abbrev is_it : ℕ × ℕ → Bool
+  is_it p = same w (drop p.0 (take p.1 f))
 
-  pub find_hit : i < length ss → i < length es → i < 32 → same w (drop (get_or ss i 0) (take (get_or es i 0) f)) ≡ true
-      → find (take (32 - i) (spans f (drop i ss) (drop i es))) w i ≡ i
-  unfolding find
-  find_hit h g p e = rw (here h g p, e)
-
-  pub find_miss : i < length ss → i < length es → i < 32 → same w (drop (get_or ss i 0) (take (get_or es i 0) f)) ≡ false
-      → find (take (32 - i) (spans f (drop i ss) (drop i es))) w i
-      ≡ find (take (32 - (i + 1)) (spans f (drop (i + 1) ss) (drop (i + 1) es))) w (i + 1)
-  unfolding find
-  find_miss h g p e = rw (here h g p, e, add-one i)
-
-  pub find_over : (length ss ≤ i) ⊎ (length es ≤ i) ⊎ (32 ≤ i) → find (take (32 - i) (spans f (drop i ss) (drop i es))) w i ≡ 37
+  pub find_first : (ss es : List ℕ) (k i : ℕ)
+      → find (take k (spans f ss es)) w i ≡ unwrap_or (position_from is_it i (take k (zip ss es))) 37
   unfolding find spans
-  find_over h = ap (λ (l : List (List ℕ)). find l w i) (none_left h)
-    where
-      no_spans : (t : List ℕ) → spans f t [] ≡ []
-      no_spans [] = refl
-      no_spans (a ∷ t) = refl
+  find_first ss es zero i = refl
+  find_first [] es (suc k) i = refl
+  find_first (a ∷ ss) [] (suc k) i = refl
+  find_first (a ∷ ss) (e ∷ es) (suc k) i =
+      by_cases (same w (drop a (take e f))) (λ t. rw t)
+      (λ t. rw (t, add-one i) (find_first ss es k (suc i)))
 
-      none_left : (length ss ≤ i) ⊎ (length es ≤ i) ⊎ (32 ≤ i) → take (32 - i) (spans f (drop i ss) (drop i es)) ≡ []
-      none_left (inl p) = rw (drop_of_length-le ss p, take-nil (32 - i))
-      none_left (inr (inl p)) = rw (drop_of_length-le es p, no_spans (drop i ss), take-nil (32 - i))
-      none_left (inr (inr p)) = let q : 32 - i ≡ 0 = omega arith in rw q
+  pub first_low : (ps : List (ℕ × ℕ)) (i : ℕ) {n : ℕ} → position_from is_it i ps ≡ Some n → n < i + length ps
+  first_low [] i e = cc
+  first_low (p ∷ ps) i {n} e =
+      by_cases (is_it p) (λ t. let q : Some i ≡ Some n = rw t at e in let r : i ≡ n = cc in omega arith)
+      (λ t. omega (arith, first_low ps (i + 1) (rw t at e)))
 
 -- there are at most 32 names
 pub few_names : (f ss es : List ℕ) → length (names_in f ss es) ≤ 32

@@ -6,7 +6,7 @@ use mathlib.Core.Bool.{Bool, true, false, cond, false≢true}
 use mathlib.Core.Logic.{◌↔◌}
 use mathlib.Core.Option.{Option, none, some, none-ne-some}
 use mathlib.Core.List.{List, [], ◌∷◌, map, append-nil}
-use lib.ListN.{length, take, replicate, length-append, length-replicate, length-map}
+use lib.ListN.{length, length-take, replicate, length-append, length-replicate, length-map}
 use lib.Seq.{take-append_seam}
 use lib.Dec.{leb}
 use borrow.Author.Tests.{leb-true, le-leb, lt-ltb}
@@ -18,9 +18,11 @@ use Rattle.grammar.specs.Lex.{Token, word, AND, OR, NOT, open', close', Spells}
 use Rattle.grammar.specs.Tree.{or, Expression, print, depth, code}
 use Rattle.grammar.specs.Outcome.{ReadsAs, Named, number_in, Becomes, breaks, unnamed, compiles}
 use Rattle.grammar.specs.TokensCode.{lex, find, number_of, numbered_token, mapped, numbers}
-use Rattle.grammar.specs.GrammarCode.{Res, got, fault, parse_chain, whole, all_named, verdict_refusal, no_words, judged_code, compiled_from, if_any, compiled}
-use Rattle.grammar.specs.declared.Compiled.{Compiled}
-use Rattle.grammar.specs.declared.Verdict.TheVariants.{Broken}
+use Rattle.grammar.specs.GrammarCode.{Res, got, fault, parse_chain, whole, all_named, verdict_refusal, code_in, judged_code, compiled_from, if_any, compiled}
+use Rattle.std.specs.Prelude.{Result, Ok, Err}
+use Rattle.grammar.specs.declared.Words.{Words}
+use Rattle.grammar.specs.declared.Unfit.{Unfit}
+use Rattle.grammar.specs.declared.Unfit.TheVariants.{Broken}
 use Rattle.grammar.proofs.Sound.{Every, Front}
 use Rattle.grammar.proofs.Complete.{complete, sound}
 use Rattle.grammar.proofs.Machine.{few_words}
@@ -127,7 +129,7 @@ module _ (names : List (List ℕ)) (few : length names ≤ 32) where
   numbered (t ∷ l) = rw (numbered_token_lem t, numbered l)
 
   all_named_lem : (l : List (Token (List ℕ))) → Named names l → all_named (map (number_of names) l) ≡ true
-  unfolding all_named number_of
+  unfolding number_of
   all_named_lem [] n = refl
   all_named_lem (word w ∷ l) n =
       rw (lt-ltb (find names w 0) 37 (omega (arith, number_found names w n.0, number_low names w n.0))) (all_named_lem l n.1)
@@ -138,7 +140,7 @@ module _ (names : List (List ℕ)) (few : length names ≤ 32) where
   all_named_lem (close' ∷ l) n = all_named_lem l n
 
   named_all : (l : List (Token (List ℕ))) → all_named (map (number_of names) l) ≡ true → Named names l
-  unfolding all_named number_of
+  unfolding number_of
   named_all [] e = tt
   named_all (word w ∷ l) e =
       by_cases (any (same w) names)
@@ -161,8 +163,8 @@ module _ (names : List (List ℕ)) (few : length names ≤ 32) where
       ∙ sym (code_natural (λ (w : NameOf names). w.0) (number_in names) x)) e n
 
   -- what `compile` answers where the text is this tree
-  abbrev answered : Option (Expression (List ℕ)) → Compiled
-  answered none = no_words Broken
+  abbrev answered : Option (Expression (List ℕ)) → Result Words Unfit
+  answered none = Err Broken
   answered (some e) = judged_code (all_named (map (number_of names) (print e))) (some (map_tree (λ w. find names w 0) e))
 
   compiled_is : (text : List ℕ) → compiled names text ≡ answered (tree_in (lex text))
@@ -184,12 +186,11 @@ module _ (names : List (List ℕ)) (few : length names ≤ 32) where
 
 -- `compile` answers what the rules give
 pub compiled_becomes : (names : List (List ℕ)) (text : List ℕ) → length names ≤ 32
-    → Becomes names text (verdict_refusal (compiled names text).verdict) (take (compiled names text).count (compiled names text).words)
+    → Becomes names text (verdict_refusal (compiled names text)) (code_in (compiled names text))
 compiled_becomes names text few = rw (compiled_is names few text) (go (tree_in (lex text)) refl)
   where
     go : (p : Option (Expression (List ℕ))) → tree_in (lex text) ≡ p
-        → Becomes names text (verdict_refusal (answered names few p).verdict)
-        (take (answered names few p).count (answered names few p).words)
+        → Becomes names text (verdict_refusal (answered names few p)) (code_in (answered names few p))
     go none q = breaks (no_tree q)
     go (some e) q =
         let ws = map word_of (code (λ i. i) (map_tree (λ w. find names w 0) e)) in
@@ -219,14 +220,18 @@ module _ {names : List (List ℕ)} {text : List ℕ} {r : Option ℕ} {ws : List
       go (compiles f s m) q = absurd (none-ne-some 12 q)
 
 -- there are never more than 64 words, in an array of 64
-pub fits : (names : List (List ℕ)) (text : List ℕ) {a : Compiled} → a ≡ compiled names text → (a.count ≤ 64) × (length a.words ≡ 64)
+pub fits : (names : List (List ℕ)) (text : List ℕ) {w : Words} → compiled names text ≡ Ok w → (w.count ≤ 64) × (length w.words ≡ 64)
 unfolding compiled compiled_from
-fits names text p = rw p (go (numbers names text))
+fits names text {w} p = subst Fit p (go (numbers names text))
   where
+    Fit : Result Words Unfit → Type 0
+    Fit (Ok w) = (w.count ≤ 64) × (length w.words ≡ 64)
+    Fit (Err x) = Unit {0}
+
     tree : (ts : List ℕ) → length ts ≤ 64 → (b : Bool) (x : Option (Expression ℕ)) → whole (parse_chain or 8 (map numbered_token ts)) ≡ x
-        → ((judged_code b x).count ≤ 64) × (length (judged_code b x).words ≡ 64)
-    tree ts s b none q = (omega arith, refl)
-    tree ts s false (some e) q = (omega arith, refl)
+        → Fit (judged_code b x)
+    tree ts s b none q = tt
+    tree ts s false (some e) q = tt
     tree ts s true (some e) q =
         let c = code (λ i. i) e in
         let ws = map word_of c in
@@ -234,9 +239,16 @@ fits names text p = rw p (go (numbers names text))
         let k : length ws ≤ 64 = omega (arith, length-map c word_of, few_words (λ i. i) e) in
         (k, omega (arith, length-append ws (replicate (64 - length ws) 0), length-replicate {A = ℕ} (64 - length ws) 0))
 
-    go : (x : Option (List ℕ)) → ((if_any x).count ≤ 64) × (length (if_any x).words ≡ 64)
-    go none = (omega arith, refl)
+    go : (x : Option (List ℕ)) → Fit (if_any x)
+    go none = tt
     go (some ts) =
         by_cases (leb (length ts) 64)
         (λ s. rw s (tree ts (leb-true (length ts) 64 s) (all_named ts) (whole (parse_chain or 8 (map numbered_token ts))) refl))
-        (λ s. rw s (omega arith, refl))
+        (λ s. rw s tt)
+
+pub few_code : (names : List (List ℕ)) (text : List ℕ) → length (code_in (compiled names text)) ≤ 64
+few_code names text = go (compiled names text) refl
+  where
+    go : (r : Result Words Unfit) → compiled names text ≡ r → length (code_in r) ≤ 64
+    go (Ok w) e = omega (arith, fits names text e, length-take w.count w.words)
+    go (Err x) e = omega arith

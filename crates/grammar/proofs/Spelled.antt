@@ -3,6 +3,7 @@ use Prim.Native.Nat.{ℕ}
 use mathlib.Core.Path.{◌≡◌, refl, ap, ◌∙◌}
 use mathlib.Core.Bool.{true, false, false≢true}
 use mathlib.Core.Logic.{◌↔◌}
+use Rattle.std.specs.Prelude.{None}
 use mathlib.Core.Option.{Option, none, some}
 use mathlib.Core.List.{List, [], ◌∷◌, ◌++◌, map, append_assoc, append-nil}
 use lib.Dec.{eqb}
@@ -11,7 +12,7 @@ use Rattle.text.specs.Kinds.{is_blank, is_start, is_digit, is_name}
 use Rattle.lists.specs.Lists.{Every}
 use Rattle.lists.proofs.Cases.{by_cases}
 use Rattle.grammar.specs.Lex.{Token, open', close', token_of, in_word, Spells, over, blank, opening, closing, letters}
-use Rattle.grammar.specs.TokensCode.{put_token, word_ends, lex_from, lex, number_of, mapped, numbers, lexed, laid_tokens, unfit_tokens}
+use Rattle.grammar.specs.TokensCode.{put_token, word_ends, lex_from, lex, number_of, mapped, numbers, lexed, laid_tokens}
 
 -- a blank is of no word
 blank_no_name : (b : ℕ) → is_blank b ≡ true → is_name b ≡ false
@@ -94,10 +95,10 @@ module _ (names : List (List ℕ)) (s : List ℕ) where
   unfolding lexed numbers
   lexed_spelled ts p = rw (spells_lex p)
 
-  pub lexed_faulty : ((ts : List (Token (List ℕ))) → Spells s ts → ⊥) → lexed names s ≡ unfit_tokens
+  pub lexed_faulty : ((ts : List (Token (List ℕ))) → Spells s ts → ⊥) → lexed names s ≡ None
   unfolding lexed numbers lex Every
   lexed_faulty h = go (lex s) (lex_found [] s tt)
     where
-      go : (r : Option (List (Token (List ℕ)))) → Found s r → laid_tokens (mapped (map (number_of names)) r) ≡ unfit_tokens
+      go : (r : Option (List (Token (List ℕ)))) → Found s r → laid_tokens (mapped (map (number_of names)) r) ≡ None
       go none f = refl
       go (some ts) f = absurd (h ts f)

@@ -1,22 +1,22 @@
 -- Laws of the tokens of a text from a place on.
-use Prim.Native.Nat.{ℕ, zero, suc, ◌+◌, ◌-◌, ◌≤◌, ◌<◌}
+use Prim.Native.Nat.{ℕ, suc, ◌+◌, ◌-◌, ◌≤◌, ◌<◌}
 use native.Mathlib.Omega.{arith}
 use mathlib.Core.Path.{◌≡◌, refl, sym, ap, ◌∙◌}
 use mathlib.Core.Bool.{Bool, true, false}
+use Rattle.std.specs.Prelude.{Some, None}
 use mathlib.Core.Option.{Option, none, some}
 use mathlib.Core.List.{List, [], ◌∷◌, ◌++◌, map, append_assoc, append-nil}
-use lib.ListN.{length, take, drop, set, get_or, replicate, length-append, drop_of_length-le}
-use lib.Seq.{drop-drop}
-use borrow.Author.Tests.{eq-eqb, ne_eqb, le-leb, lt-leb}
-use Rattle.lists.specs.FillsCode.{Filled}
-use Rattle.lists.proofs.Fills.{filled_none, filled_all, filled_take, filled_count, filled_one}
+use lib.ListN.{length, take, drop, get_or, replicate, length-append, drop_of_length-le}
+use lib.Seq.{append_snoc, drop-drop, set_at}
+use borrow.Author.Tests.{eq-eqb, ne_eqb, le-leb, lt-leb, lt-ltb}
 use Rattle.text.specs.Kinds.{is_blank, is_name}
 use Rattle.text.specs.SpansCode.{span_at}
-use Rattle.lists.proofs.Cases.{by_cases}
+use Rattle.lists.proofs.Cases.{by_cases, le_or_lt}
 use Rattle.text.proofs.Spans.{drop_one, span_more, high_of}
 use Rattle.grammar.specs.Lex.{Token, open', close', token_of}
-use Rattle.grammar.specs.TokensCode.{put_token, lex_from, lex, number_of, mapped, numbers, LexemeAt, next, skip, wrong, laid_tokens, unfit_tokens}
-use Rattle.grammar.specs.declared.Lexeme.TheVariants.{Next, Skip, Wrong}
+use Rattle.grammar.specs.TokensCode.{put_token, lex_from, lex, number_of, mapped, numbers, laid, pushed, laid_tokens, LexemeAt, next, skip, wrong}
+use Rattle.grammar.specs.declared.Lexeme.{Lexeme}
+use Rattle.grammar.specs.declared.Words.{Words}
 
 -- runs of bytes of one kind, from any offset
 module _ (p : ℕ → Bool) where
@@ -62,10 +62,16 @@ mapped_put : (names : List (List ℕ)) (x : Token (List ℕ)) (r : Option (List 
 mapped_put names x none = refl
 mapped_put names x (some l) = refl
 
+abbrev pub token_to : ℕ → ℕ → Lexeme
+token_to t i = record { token = Some t; end = i }
+
+abbrev pub blank_to : ℕ → Lexeme
+blank_to i = record { token = None; end = i }
+
 -- what stands at a place, by the byte there
 module _ (names : List (List ℕ)) (s : List ℕ) (at : ℕ) (h : at < length s) where
   pub at_word : (i t : ℕ) → is_name (get_or s at 0) ≡ true → i ≡ span_at is_name (drop at s) at
-      → t ≡ number_of names (token_of (take (i - at) (drop at s))) → LexemeAt names s at (Next t i)
+      → t ≡ number_of names (token_of (take (i - at) (drop at s))) → LexemeAt names s at (Some (token_to t i))
   unfolding numbers
   at_word i t e p q =
       let b = get_or s at 0 in
@@ -79,83 +85,99 @@ module _ (names : List (List ℕ)) (s : List ℕ) (at : ℕ) (h : at < length s)
       ∙ mapped_put names (token_of (b ∷ take (run s₁) s₁)) (lex (drop (run s₁) s₁)) ∙ rw (named, rest)))
 
   module _ (n : is_name (get_or s at 0) ≡ false) where
-    pub at_blank : is_blank (get_or s at 0) ≡ true → LexemeAt names s at Skip
+    pub at_blank : is_blank (get_or s at 0) ≡ true → LexemeAt names s at (Some (blank_to (at + 1)))
     unfolding numbers lex lex_from
     at_blank e = skip (rw (drop_one s at h, n, e))
 
     module _ (b : is_blank (get_or s at 0) ≡ false) where
-      pub at_left : get_or s at 0 ≡ 40 → LexemeAt names s at (Next 35 (at + 1))
+      pub at_left : get_or s at 0 ≡ 40 → LexemeAt names s at (Some (token_to 35 (at + 1)))
       unfolding numbers lex lex_from number_of
       at_left e =
           next 35 (at + 1) (omega arith) (omega arith)
           (rw (drop_one s at h, n, b, eq-eqb (get_or s at 0) 40 e) (mapped_put names open' (lex (drop (at + 1) s))))
 
-      pub at_right : get_or s at 0 ≡ 41 → LexemeAt names s at (Next 36 (at + 1))
+      pub at_right : get_or s at 0 ≡ 41 → LexemeAt names s at (Some (token_to 36 (at + 1)))
       unfolding numbers lex lex_from number_of
       at_right e =
           next 36 (at + 1) (omega arith) (omega arith)
           (rw (drop_one s at h, n, b, ne_eqb (get_or s at 0) 40 (omega arith), eq-eqb (get_or s at 0) 41 e)
           (mapped_put names close' (lex (drop (at + 1) s))))
 
-      pub at_other : (get_or s at 0 ≡ 40 → ⊥) → (get_or s at 0 ≡ 41 → ⊥) → LexemeAt names s at Wrong
+      pub at_other : (get_or s at 0 ≡ 40 → ⊥) → (get_or s at 0 ≡ 41 → ⊥) → LexemeAt names s at None
       unfolding numbers lex lex_from
       at_other e f = wrong (rw (drop_one s at h, n, b, ne_eqb (get_or s at 0) 40 e, ne_eqb (get_or s at 0) 41 f))
 
-pub onwards : {names : List (List ℕ)} {s : List ℕ} {at t i : ℕ} → LexemeAt names s at (Next t i) → (at < i) × (i ≤ length s)
-onwards (next t i a b e) = (a, b)
+pub onwards : {names : List (List ℕ)} {s : List ℕ} {at : ℕ} {x : Lexeme} → at < length s → LexemeAt names s at (Some x)
+    → (at < x.end) × (x.end ≤ length s)
+onwards h (next t i a b e) = (a, b)
+onwards h (skip e) = (omega arith, omega arith)
 
-pub drop_zeros : (n k : ℕ) → drop {A = ℕ} n (replicate k 0) ≡ replicate (k - n) 0
-drop_zeros zero k = let q : k ≡ k - 0 = omega arith in ap (λ (j : ℕ). replicate j 0) q
-drop_zeros (suc n) zero = let q : 0 ≡ 0 - suc n = omega arith in ap (λ (j : ℕ). replicate j 0) q
-drop_zeros (suc n) (suc k) = let q : k - n ≡ suc k - suc n = omega arith in drop_zeros n k ∙ ap (λ (j : ℕ). replicate j 0) q
+-- one word pushed behind others, where there is room
+pub pushed_one : (done : List ℕ) (x : ℕ) → length done < 64 → pushed (laid done) x ≡ laid (done ++ (x ∷ []))
+pushed_one done x h =
+    let n : length (done ++ (x ∷ [])) ≡ length done + 1 = omega (arith, length-append done (x ∷ [])) in
+    let q : 64 - length done ≡ suc (64 - (length done + 1)) = omega arith in
+    rw (
+      lt-ltb (length done) 64 h,
+      n,
+      q,
+      set_at done 0 (replicate (64 - (length done + 1)) 0) x (length done) refl,
+      append_snoc done x (replicate (64 - (length done + 1)) 0),
+    )
 
--- A turn of the loop: the text's numbers are the n that stand in the array, and then those from the place on; behind them the array has
--- zeros.
-pub record Turn (names : List (List ℕ)) (s : List ℕ) (at n : ℕ) (o : List ℕ) : Type 0 where
+-- A turn of the loop: the text's numbers are those that were pushed, and then those from the place on.
+pub record Turn (names : List (List ℕ)) (s : List ℕ) (at : ℕ) (o : Words) : Type 0 where
   pub within : at ≤ length s
-  pub laid : Filled (take n o) (replicate 64 0) o n
-  pub rest : numbers names s ≡ mapped (λ r. take n o ++ r) (numbers names (drop at s))
+  pub done : List ℕ
+  pub are : o ≡ laid done
+  pub few : length done ≤ 64
+  pub rest : numbers names s ≡ mapped (λ r. done ++ r) (numbers names (drop at s))
 
-pub first_turn : (names : List (List ℕ)) (s : List ℕ) → Turn names s 0 0 (replicate 64 0)
-first_turn names s = record { within = omega arith; laid = filled_none (replicate 64 0); rest = go (numbers names s) }
+pub first_turn : (names : List (List ℕ)) (s : List ℕ) → Turn names s 0 (laid [])
+first_turn names s = record { within = omega arith; done = []; are = refl; few = omega arith; rest = go (numbers names s) }
   where
     go : (r : Option (List ℕ)) → r ≡ mapped (λ l. l) r
     go none = refl
     go (some l) = refl
 
-module _ {names : List (List ℕ)} {s : List ℕ} {at n : ℕ} {o : List ℕ} (turn : Turn names s at n o) where
-  pub token_turn : {t i : ℕ} → n < 64 → LexemeAt names s at (Next t i) → Turn names s i (n + 1) (set o n t)
-  token_turn g (next t i a b e) =
-      record { within = b; laid = filled_take (more g); rest = turn.rest ∙ rw e (go (numbers names (drop i s))) }
+module _ {names : List (List ℕ)} {s : List ℕ} {at : ℕ} {o : Words} (turn : Turn names s at o) where
+  count_is : o.count ≡ length turn.done
+  count_is = ap (λ (w : Words). w.count) turn.are
+
+  pub token_turn : {t i : ℕ} {o' : Words} → (o.count ≡ 64 → ⊥) → o' ≡ pushed o t → LexemeAt names s at (Some (token_to t i))
+      → Turn names s i o'
+  token_turn g p (next t i a b e) =
+      let h : length turn.done < 64 = le_or_lt 64 (length turn.done) (λ k. absurd (g (omega (arith, count_is, turn.few)))) (λ k. k) in
+      record {
+        within = b;
+        done = turn.done ++ (t ∷ []);
+        are = p ∙ ap (λ (w : Words). pushed w t) turn.are ∙ pushed_one turn.done t h;
+        few = omega (arith, length-append turn.done (t ∷ []));
+        rest = turn.rest ∙ rw e (go (numbers names (drop i s)));
+      }
     where
-      more : n < 64 → Filled (take n o ++ (t ∷ [])) (replicate 64 0) (set o n t) (n + 1)
-      more g = filled_one (take n o) (replicate 64 0) o n (n + 1) t turn.laid g refl
-
-      go : (y : Option (List ℕ)) → mapped (λ r. take n o ++ r) (put_token t y) ≡ mapped (λ r. take (n + 1) (set o n t) ++ r) y
+      go : (y : Option (List ℕ)) → mapped (λ r. turn.done ++ r) (put_token t y) ≡ mapped (λ r. (turn.done ++ (t ∷ [])) ++ r) y
       go none = refl
-      go (some l) = ap some (rw (more g).words (sym (append_assoc (take n o) (t ∷ []) l)))
+      go (some l) = ap some (sym (append_assoc turn.done (t ∷ []) l))
 
-  pub blank_turn : at < length s → LexemeAt names s at Skip → Turn names s (at + 1) n o
-  blank_turn h (skip e) = record { within = omega arith; laid = turn.laid; rest = turn.rest ∙ rw e }
+  pub blank_turn : {i : ℕ} → at < length s → LexemeAt names s at (Some (blank_to i)) → Turn names s i o
+  blank_turn h (skip e) = record { within = omega arith; done = turn.done; are = turn.are; few = turn.few; rest = turn.rest ∙ rw e }
 
-  pub wrong_there : LexemeAt names s at Wrong → laid_tokens (numbers names s) ≡ unfit_tokens
+  pub wrong_there : LexemeAt names s at None → laid_tokens (numbers names s) ≡ None
   wrong_there (wrong e) = rw (turn.rest, e)
 
-  pub full : {t i : ℕ} → n ≡ 64 → LexemeAt names s at (Next t i) → laid_tokens (numbers names s) ≡ unfit_tokens
+  pub full : {t i : ℕ} → o.count ≡ 64 → LexemeAt names s at (Some (token_to t i)) → laid_tokens (numbers names s) ≡ None
   full g (next t i a b e) = rw (turn.rest, e) (go (numbers names (drop i s)))
     where
-      go : (y : Option (List ℕ)) → laid_tokens (mapped (λ r. take n o ++ r) (put_token t y)) ≡ unfit_tokens
+      go : (y : Option (List ℕ)) → laid_tokens (mapped (λ r. turn.done ++ r) (put_token t y)) ≡ None
       go none = refl
       go (some l) =
-          let k : length (take n o ++ t ∷ l) ≡ 65
-          + length l = omega (arith, length-append (take n o) (t ∷ l), filled_count turn.laid) in
-          rw (lt-leb (length (take n o ++ t ∷ l)) 64 (omega arith))
+          let k : length (turn.done ++ t ∷ l) ≡ 65 + length l = omega (arith, length-append turn.done (t ∷ l), count_is) in
+          rw (lt-leb (length (turn.done ++ t ∷ l)) 64 (omega arith))
 
-  pub all_read : length s ≤ at → laid_tokens (numbers names s) ≡ record { fine = true; count = n; tokens = o }
+  pub all_read : length s ≤ at → laid_tokens (numbers names s) ≡ Some o
   unfolding numbers lex lex_from
   all_read h = rw (turn.rest, drop_of_length-le s h) go
     where
-      go : laid_tokens (some (take n o ++ [])) ≡ record { fine = true; count = n; tokens = o }
-      go =
-          let f = turn.laid in
-          rw (append-nil (take n o), filled_count f, le-leb n 64 f.within, ← drop_zeros n 64, ← filled_all f)
+      go : laid_tokens (some (turn.done ++ [])) ≡ Some o
+      go = rw (append-nil turn.done, le-leb (length turn.done) 64 turn.few) (ap (λ (w : Words). Some w) (sym turn.are))

@@ -1,17 +1,16 @@
 -- The reader that the code follows, and what the contracts of the inner functions say. Nothing here need be believed: the theorem
 -- `compiled_becomes` (proofs/Ruled.antt) ties `compiled` to the rules.
-use Rattle.std.specs.Prelude.{ℕ, zero, suc, ◌+◌, ◌-◌, ◌*◌, ◌≤◌, ◌≡◌, Bool, true, false, cond, ◌&&◌, List, [], ◌∷◌, ◌++◌, map, length, take, drop, replicate, leb, ltb}
+use Rattle.std.specs.Prelude.{ℕ, zero, suc, ◌+◌, ◌*◌, ◌≤◌, ◌≡◌, Bool, true, false, cond, List, [], ◌∷◌, map, length, drop, leb, ltb}
+use Rattle.std.specs.Prelude.{Option as Maybe, Some, None, Result, Ok, Err}
+use Rattle.std.specs.List.{fold, list_all}
 use Rattle.std.proofs.Math.Option.{Option, none, some}
 use Rattle.code.specs.Code.{Op, word_of}
-use Rattle.lists.specs.FillsCode.{Filled}
 use Rattle.grammar.specs.Lex.{Token, word, AND, OR, NOT, open', close'}
-use Rattle.grammar.specs.TokensCode.{numbered_token, numbers}
+use Rattle.grammar.specs.TokensCode.{numbered_token, laid, words_in, pushed, numbers}
 use Rattle.grammar.specs.Tree.{Operator, or, and, Chain, only, join, Operand, chain, name, negate, bracket, Expression, code}
-use Rattle.grammar.specs.declared.Got.{Got}
-use Rattle.grammar.specs.declared.Got.TheVariants.{At, Fault}
-use Rattle.grammar.specs.declared.Verdict.{Verdict}
-use Rattle.grammar.specs.declared.Verdict.TheVariants.{Good, Broken, Unknown}
-use Rattle.grammar.specs.declared.Compiled.{Compiled}
+use Rattle.grammar.specs.declared.Unfit.{Unfit}
+use Rattle.grammar.specs.declared.Unfit.TheVariants.{Broken, Unknown}
+use Rattle.grammar.specs.declared.Words.{Words}
 
 -- what a reader answers: what it read and the tokens behind it, or that nothing it reads stands there
 pub data Res (N A : Type 0) : Type 0 where
@@ -104,54 +103,48 @@ whole (got e (t ∷ l)) = none
 whole fault = none
 
 -- no token's number is 37
-unfoldable pub all_named : List ℕ → Bool
-all_named [] = true
-all_named (n ∷ l) = ltb n 37 && all_named l
+abbrev pub all_named : List ℕ → Bool
+all_named ts = list_all (λ n. ltb n 37) ts
+
+-- the paper's number for each refusal
+abbrev pub unfit_number : Unfit → ℕ
+unfit_number x = elim x [ Broken ↦ 11 | Unknown ↦ 12 ]
 
 -- the paper's number for each case of the answer
-abbrev pub verdict_refusal : Verdict → Option ℕ
-verdict_refusal Good = none
-verdict_refusal Broken = some 11
-verdict_refusal Unknown = some 12
+abbrev pub verdict_refusal : Result Words Unfit → Option ℕ
+verdict_refusal (Ok w) = none
+verdict_refusal (Err x) = some (unfit_number x)
 
-abbrev pub no_words : Verdict → Compiled
-no_words v = record { verdict = v; count = 0; words = replicate 64 0 }
+-- the words that an answer gives
+abbrev pub code_in : Result Words Unfit → List ℕ
+code_in (Ok w) = words_in w
+code_in (Err x) = []
 
--- code, and 0 in every place behind it
-abbrev pub laid_words : List ℕ → Compiled
-laid_words ws = record { verdict = Good; count = length ws; words = ws ++ replicate (64 - length ws) 0 }
-
-abbrev pub judged_code : Bool → Option (Expression ℕ) → Compiled
-judged_code b none = no_words Broken
-judged_code true (some e) = laid_words (map word_of (code (λ i. i) e))
-judged_code false (some e) = no_words Unknown
+abbrev pub judged_code : Bool → Option (Expression ℕ) → Result Words Unfit
+judged_code b none = Err Broken
+judged_code true (some e) = Ok (laid (map word_of (code (λ i. i) e)))
+judged_code false (some e) = Err Unknown
 
 -- what becomes of tokens by their numbers, of which there are at most 64
-unfoldable pub compiled_from : List ℕ → Compiled
+unfoldable pub compiled_from : List ℕ → Result Words Unfit
 compiled_from ts = judged_code (all_named ts) (whole (parse_chain or 8 (map numbered_token ts)))
 
-abbrev pub if_any : Option (List ℕ) → Compiled
-if_any none = no_words Broken
-if_any (some ts) = cond (leb (length ts) 64) (compiled_from ts) (no_words Broken)
+abbrev pub if_any : Option (List ℕ) → Result Words Unfit
+if_any none = Err Broken
+if_any (some ts) = cond (leb (length ts) 64) (compiled_from ts) (Err Broken)
 
 -- what `compile` answers
-unfoldable pub compiled : List (List ℕ) → List ℕ → Compiled
+unfoldable pub compiled : List (List ℕ) → List ℕ → Result Words Unfit
 compiled names text = if_any (numbers names text)
 
--- From the token at `at` and the word at n a reader came to i and m: it wrote the words of the code c, at most one for each token, and none
--- elsewhere.
-pub record WroteCode (ts : List ℕ) (at n : ℕ) (o o' : List ℕ) (c : List Op) (i m : ℕ) : Type 0 where
-  pub on : at ≤ i
+-- From the token at `at` a reader came to i: it pushed the words of the code c, at most one for each token.
+pub record WroteCode (ts : List ℕ) (at : ℕ) (o o' : Words) (c : List Op) (i : ℕ) : Type 0 where
   pub within : i ≤ length ts
-  pub up : n ≤ m
-  pub spare : m + at ≤ i + n
-  pub filled : Filled (take n o ++ map word_of c) o o' m
+  pub spare : length c + at ≤ i
+  pub pushes : o' ≡ fold pushed o (map word_of c)
 
 -- The code's answer agrees with p, what the reader of lists answers.
-pub data Agrees {A : Type 0} (code_of : A → List Op) (ts : List ℕ) (at n : ℕ) (o o' : List ℕ) (p : Res ℕ A) : Got → Type 0 where
-  read :
-      (a : A) (i m : ℕ)
-      → p ≡ got a (map numbered_token (drop i ts))
-      → WroteCode ts at n o o' (code_of a) i m
-      → Agrees code_of ts at n o o' p (At i m)
-  failed : p ≡ fault → Agrees code_of ts at n o o' p Fault
+pub data Agrees {A : Type 0} (code_of : A → List Op) (ts : List ℕ) (at : ℕ) (o o' : Words) (p : Res ℕ A) : Maybe ℕ → Type 0 where
+  read : (a : A) (i : ℕ) → p ≡ got a (map numbered_token (drop i ts)) → WroteCode ts at o o' (code_of a) i
+      → Agrees code_of ts at o o' p (Some i)
+  failed : p ≡ fault → Agrees code_of ts at o o' p None

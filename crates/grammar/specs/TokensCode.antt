@@ -1,13 +1,13 @@
 -- The tokens of a text as a function, their numbers, and what the contracts of the inner functions say. Nothing here need be believed: the
 -- theorems `spelled` (proofs/Spelled.antt) and `compiled_becomes` (proofs/Ruled.antt) tie it to the rules.
-use Rattle.std.specs.Prelude.{ℕ, suc, ◌+◌, ◌-◌, ◌≤◌, ◌<◌, ◌≡◌, true, false, cond, List, [], ◌∷◌, ◌++◌, map, leb, eqb, length, take, drop, replicate}
+use Rattle.std.specs.Prelude.{ℕ, suc, ◌+◌, ◌-◌, ◌≤◌, ◌<◌, ◌≡◌, cond, List, [], ◌∷◌, ◌++◌, map, leb, ltb, eqb, length, take, drop, replicate, set}
+use Rattle.std.specs.Prelude.{Option as Maybe, Some, None}
 use Rattle.std.proofs.Math.Option.{Option, none, some}
 use Rattle.text.specs.Texts.{same}
 use Rattle.text.specs.Kinds.{among, is_blank, is_name}
 use Rattle.grammar.specs.Lex.{Token, word, AND, OR, NOT, open', close', token_of}
-use Rattle.grammar.specs.declared.Lexed.{Lexed}
+use Rattle.grammar.specs.declared.Words.{Words}
 use Rattle.grammar.specs.declared.Lexeme.{Lexeme}
-use Rattle.grammar.specs.declared.Lexeme.TheVariants.{Next, Skip, Wrong}
 
 abbrev pub put_token : {A : Type 0} → A → Option (List A) → Option (List A)
 put_token x none = none
@@ -64,25 +64,33 @@ mapped f (some x) = some (f x)
 unfoldable pub numbers : List (List ℕ) → List ℕ → Option (List ℕ)
 numbers names s = mapped (map (number_of names)) (lex s)
 
--- what `tokenise` answers where a text's tokens have these numbers: all, if they are at most 64, and 0 in every place behind them
-abbrev pub unfit_tokens : Lexed
-unfit_tokens = record { fine = false; count = 0; tokens = replicate 64 0 }
+-- words in an array, and 0 in every place behind them
+abbrev pub laid : List ℕ → Words
+laid ws = record { count = length ws; words = ws ++ replicate (64 - length ws) 0 }
 
-abbrev pub laid_tokens : Option (List ℕ) → Lexed
-laid_tokens none = unfit_tokens
-laid_tokens (some ts) =
-    cond (leb (length ts) 64) (record { fine = true; count = length ts; tokens = ts ++ replicate (64 - length ts) 0 }) unfit_tokens
+-- the words that count
+abbrev pub words_in : Words → List ℕ
+words_in w = take w.count w.words
 
-unfoldable pub lexed : List (List ℕ) → List ℕ → Lexed
+-- one more word behind those that count; where there is no room, none
+abbrev pub pushed : Words → ℕ → Words
+pushed w x = cond (ltb w.count 64) (record { count = w.count + 1; words = set w.words w.count x }) w
+
+-- what `tokenise` answers where a text's tokens have these numbers: all, if they are at most 64
+abbrev pub laid_tokens : Option (List ℕ) → Maybe Words
+laid_tokens none = None
+laid_tokens (some ts) = cond (leb (length ts) 64) (Some (laid ts)) None
+
+unfoldable pub lexed : List (List ℕ) → List ℕ → Maybe Words
 lexed names s = laid_tokens (numbers names s)
 
--- what stands at the place `at` of the text s
-pub data LexemeAt (names : List (List ℕ)) (s : List ℕ) (at : ℕ) : Lexeme → Type 0 where
+-- what stands at the place `at` of the text s, or a byte at fault
+pub data LexemeAt (names : List (List ℕ)) (s : List ℕ) (at : ℕ) : Maybe Lexeme → Type 0 where
   next :
       (t i : ℕ)
       → at < i
       → i ≤ length s
       → numbers names (drop at s) ≡ put_token t (numbers names (drop i s))
-      → LexemeAt names s at (Next t i)
-  skip : numbers names (drop at s) ≡ numbers names (drop (at + 1) s) → LexemeAt names s at Skip
-  wrong : numbers names (drop at s) ≡ none → LexemeAt names s at Wrong
+      → LexemeAt names s at (Some (record { token = Some t; end = i }))
+  skip : numbers names (drop at s) ≡ numbers names (drop (at + 1) s) → LexemeAt names s at (Some (record { token = None; end = at + 1 }))
+  wrong : numbers names (drop at s) ≡ none → LexemeAt names s at None

@@ -5,29 +5,30 @@
 #![tactic(auto)]
 
 ghost use Rattle.std.specs.Prelude.{◌≡◌};
-ghost use Rattle.event_rules.specs.Rules.{Event};
 ghost use Rattle.event_rules.specs.Calls.{Answers};
 
-use event_rules::{Counts, Engine, Frame, Outcome};
+use event_rules::{Counts, Engine, Event, Frame, Outcome};
 
-// One frame; the record becomes the outcome's counts.
-pub fn frame_into(words: &[u32], en: Engine, counts: &mut Counts, f: Frame) -> Outcome
-    ensures { Answers words.now en counts.old (Event.frame f) result × (counts.new ≡ result.counts) }
+// One event; the record becomes the outcome's counts. A tick is counted nowhere, so it leaves the record as it is.
+pub fn event_into(words: &[u32], en: Engine, counts: &mut Counts, e: Event) -> Outcome
+    ensures { Answers words.now en counts.old e result × (counts.new ≡ result.counts) }
 {
     let before = *counts;
-    let out = engine::take_frame(words, en, before, f);
-    let after = out.counts;
-    *counts = after;
+    let out = engine::take_event(words, en, before, e);
+    *counts = out.counts;
     out
 }
 
-// One tick, at u; a tick is counted nowhere, so the record is left as it is.
-pub fn tick_into(words: &[u32], en: Engine, counts: &mut Counts, u: u64) -> Outcome
-    ensures { Answers words.now en counts.old (Event.tick u) result × (counts.new ≡ result.counts) }
+// One frame. A name of its own, as `tick_into`: those who call give the one or the other.
+pub fn frame_into(words: &[u32], en: Engine, counts: &mut Counts, f: Frame) -> Outcome
+    ensures { Answers words.now en counts.old (Event.Frame f) result × (counts.new ≡ result.counts) }
 {
-    let held = *counts;
-    let out = engine::take_tick(words, en, held, u);
-    let left = out.counts;
-    *counts = left;
-    out
+    event_into(words, en, counts, Event::Frame(f))
+}
+
+// One tick, at u.
+pub fn tick_into(words: &[u32], en: Engine, counts: &mut Counts, u: u64) -> Outcome
+    ensures { Answers words.now en counts.old (Event.Tick u) result × (counts.new ≡ result.counts) }
+{
+    event_into(words, en, counts, Event::Tick(u))
 }

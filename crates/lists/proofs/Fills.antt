@@ -29,9 +29,6 @@ module _ {A : Type 0} where
   pub filled_count : {done d e : List A} {n : ℕ} → Filled done d e n → length done ≡ n
   filled_count {done} {d} {e} {n} f = sym (ap length f.words) ∙ length-take-le n e (omega (arith, f.long, f.within))
 
-  pub filled_room : {done d e : List A} {n : ℕ} (m : ℕ) → Filled done d e n → m ≤ length d → m ≤ length e
-  filled_room m f h = omega (arith, f.long)
-
   -- one more
   pub filled_one : (done d e : List A) (n m : ℕ) (x : A) → Filled done d e n → n < length d → n + 1 ≡ m
       → Filled (done ++ (x ∷ [])) d (set e n x) m
@@ -76,12 +73,6 @@ module _ {A : Type 0} where
       long = ap length more_is ∙ omega (arith, length-append (done ++ w) (drop (at + n) d), more_long, length-drop (at + n) d);
       within = h;
     }
-
-  -- the first i of t are copied to the front of d
-  pub filled_copy : (t d e : List A) (i : ℕ) (z : A) → Filled (take i t) d e i → i < length t → i < length d
-      → Filled (take (i + 1) t) d (set e i (get_or t i z)) (i + 1)
-  filled_copy t d e i z f h k =
-      rw (add-one i, take-suc t i z h) (filled_one (take i t) d e i (suc i) (get_or t i z) f k (add-one i))
 
   -- in what is passed it is `t`, in what is left still `o`
   abbrev pub filled : List A → List A → ℕ → List A

@@ -8,7 +8,7 @@ ghost use Rattle.lists.specs.BitsCode.{has_bit, with_bit};
 pub fn has_bit(set: u64, k: usize) -> bool
     ensures { result ≡ has_bit set k }
 {
-    if k < 64 { (set >> k) % 2 == 1 } else { false }
+    k < 64 && (set >> k) % 2 == 1
 }
 
 // No number from 64 on goes in.

@@ -7,12 +7,15 @@ use native.Mathlib.Omega.{arith}
 use lib.ListN.{length, get_or, drop, length-append, length-map, take-append-drop, length-drop}
 use lib.Seq.{drop-drop, take_at, drop_at, take-append_seam, length-take-le}
 use lib.Dec.{leb, eqb}
-use borrow.Author.Tests.{leb-true, eq-eqb, ne_eqb, eqb-true}
+use borrow.Author.Tests.{leb-true, ne_eqb}
 use Rattle.code.specs.HeightsCode.{sound_code}
 use Rattle.records.specs.Records.{PlanStatement, flag, timeout_word, cause_words, trigger_words, effect_word, filter_words, action_word, statement_words, timeout_in, cause_in, trigger_in, filter_in}
 use Rattle.loader.specs.Plan.{statement_in}
 use Rattle.records.specs.RecordsCode.{timeout_at, cause_at, trigger_at, effect_at, filter_at, action_at, actions_at, code_at, statement_at, trigger_size, filter_size, statement_size}
-use Rattle.loader.specs.ScanCode.{starts, trigger_ok, filter_ok, action_ok, actions_ok, statement_ok}
+use Rattle.std.specs.List.{list_all, starts_with}
+use Rattle.std.proofs.lemmas.Slice.Eq.{starts_is}
+use Rattle.std.proofs.lemmas.Bool.Decides.{Decides-eqb}
+use Rattle.loader.specs.ScanCode.{trigger_ok, filter_ok, action_ok, statement_ok}
 use Rattle.records.specs.declared.Cause.{Cause}
 use Rattle.records.specs.declared.Cause.TheVariants.{Id, Length, Error, Startup}
 use Rattle.records.specs.declared.Timeout.{Timeout}
@@ -27,32 +30,15 @@ use Rattle.loader.proofs.Rows.{Kind}
 use Rattle.lists.proofs.Parts.{and_left, and_right}
 
 -- ---- records of one length, that are read, spelt again and compared
-eqb_same : (x : ℕ) → eqb x x ≡ true
-eqb_same x = eq-eqb x x refl
-
-starts_append : (xs rest : List ℕ) → starts (xs ++ rest) xs ≡ true
-unfolding starts
-starts_append [] rest = refl
-starts_append (x ∷ xs) rest = rw (eqb_same x) (starts_append xs rest)
-
-starts_split : (ws ys : List ℕ) → starts ws ys ≡ true → ws ≡ ys ++ drop (length ys) ws
-unfolding starts
-starts_split ws [] p = refl
-starts_split [] (y ∷ ys) p = absurd (false≢true p)
-starts_split (w ∷ ws) (y ∷ ys) p =
-    let e : w ≡ y = eqb-true w y (and_left (eqb w y) (starts ws ys) p) in
-    let r : ws ≡ ys ++ drop (length ys) ws = starts_split ws ys (and_right (eqb w y) (starts ws ys) p) in
-    λ i. e i ∷ r i
-
 module _ {X : Type 0} (m : ℕ) (read : List ℕ → X) (words : X → List ℕ) (In : X → Bool)
     (long : (x : X) → length (words x) ≡ m) (reads : (x : X) → In x ≡ true → (rest : List ℕ) → read (words x ++ rest) ≡ x) where
-  spelt_again : Kind (λ ws. m) (λ ws. starts ws (words (read ws)) && In (read ws)) read words In
+  spelt_again : Kind (λ ws. m) (λ ws. starts_with eqb ws (words (read ws)) && In (read ws)) read words In
   spelt_again = record {
     sized = λ x h rest. sym (long x);
-    taken = λ x h rest. ap (λ (y : X). starts (words x ++ rest) (words y) && In y) (reads x h rest) ∙ rw (starts_append (words x) rest) h;
+    taken = λ x h rest. ap (λ (y : X). starts_with eqb (words x ++ rest) (words y) && In y) (reads x h rest) ∙ rw ((starts_is Decides-eqb (words x ++ rest) (words x) _ refl).1 rest refl) h;
     back = reads;
-    inside = λ ws f p. and_right (starts ws (words (read ws))) (In (read ws)) p;
-    spelt = λ ws f p. starts_split ws (words (read ws)) (and_left (starts ws (words (read ws))) (In (read ws)) p)
+    inside = λ ws f p. and_right (starts_with eqb ws (words (read ws))) (In (read ws)) p;
+    spelt = λ ws f p. (starts_is Decides-eqb ws (words (read ws)) _ refl).0 (and_left (starts_with eqb ws (words (read ws))) (In (read ws)) p)
         ∙ ap (λ (n : ℕ). words (read ws) ++ drop n ws) (long (read ws));
   }
 
@@ -131,8 +117,7 @@ word_ok StartLog = refl
 word_ok StopLog = refl
 word_ok StopLogCompletely = refl
 
-words_ok : (xs : List Action) → actions_ok (map action_word xs) ≡ true
-unfolding actions_ok
+words_ok : (xs : List Action) → list_all action_ok (map action_word xs) ≡ true
 words_ok [] = refl
 words_ok (a ∷ xs) = rw (word_ok a) (words_ok xs)
 
@@ -150,12 +135,11 @@ word_back (suc (suc (suc (suc w)))) h =
           (and_right (leb 1 (suc (suc (suc (suc w))))) (leb (suc (suc (suc (suc w)))) 3) h),
     ))
 
-words_back : (ws : List ℕ) → actions_ok ws ≡ true → map action_word (map action_at ws) ≡ ws
-unfolding actions_ok
+words_back : (ws : List ℕ) → list_all action_ok ws ≡ true → map action_word (map action_at ws) ≡ ws
 words_back [] h = refl
 words_back (w ∷ ws) h =
-    let e : action_word (action_at w) ≡ w = word_back w (and_left (action_ok w) (actions_ok ws) h) in
-    let r : map action_word (map action_at ws) ≡ ws = words_back ws (and_right (action_ok w) (actions_ok ws) h) in
+    let e : action_word (action_at w) ≡ w = word_back w (and_left (action_ok w) (list_all action_ok ws) h) in
+    let r : map action_word (map action_at ws) ≡ ws = words_back ws (and_right (action_ok w) (list_all action_ok ws) h) in
     λ i. e i ∷ r i
 
 module _ (s : PlanStatement) (rest : List ℕ) where
@@ -220,13 +204,13 @@ module _ (ws : List ℕ) (f : statement_size ws ≤ length ws) where
   module _ (triggers : ℕ) (p : statement_ok triggers ws ≡ true) where
     statement_inside : statement_in triggers (statement_at ws) ≡ true
     unfolding statement_in statement_ok
-    statement_inside = rw (acts_long, code_long) (unmarked (counted ws) (actions_ok (actions_at ws)) (sound_code triggers (code_at ws)) p)
+    statement_inside = rw (acts_long, code_long) (unmarked (counted ws) (list_all action_ok (actions_at ws)) (sound_code triggers (code_at ws)) p)
 
-    acts_ok : actions_ok (actions_at ws) ≡ true
+    acts_ok : list_all action_ok (actions_at ws) ≡ true
     unfolding statement_ok
     acts_ok =
-        and_right (counted ws) (actions_ok (actions_at ws))
-        (and_left (counted ws && actions_ok (actions_at ws)) (sound_code triggers (code_at ws)) p)
+        and_right (counted ws) (list_all action_ok (actions_at ws))
+        (and_left (counted ws && list_all action_ok (actions_at ws)) (sound_code triggers (code_at ws)) p)
 
     statement_spelt : ws ≡ statement_words (statement_at ws) ++ drop (statement_size ws) ws
     statement_spelt =

@@ -9,17 +9,15 @@ ghost use Rattle.std.specs.Prelude.{◌≡◌};
 ghost use Rattle.replay.specs.Replay.{events_answered, Replays};
 ghost use Rattle.logger_c.specs.Calls.{Loading, counts_of};
 
-use event_rules::Counts;
-use loader::Loaded;
+use event_rules::{Counts, Refusal};
 
 // 0 where the words are a plan, else 20.
 pub fn steamfiddle_load(plan: &[u32]) -> u32
     ensures { Loading plan.now result }
 {
-    let loaded = loader::load(plan);
-    match loaded {
-        Loaded::Taken(_) => 0,
-        Loaded::Refused => 20,
+    match loader::load(plan) {
+        Some(_) => 0,
+        None => u32::from(Refusal::NoPlan.number()),
     }
 }
 

@@ -7,7 +7,7 @@
 
 use element::fields;
 use std::io;
-use walk::tags;
+use walk::{Part, tags};
 
 // As many bytes are looked at.
 const ROOM: usize = 65536;
@@ -23,22 +23,12 @@ fn say(rt: &impl Print, text: &[u8]) -> io::Result<()> {
 }
 
 // A name in the file, and the place of its element. The name lies in the file, which is looked at once more for the sake of safety.
-fn tell(
-    rt: &impl Print,
-    what: &[u8],
-    file: &[u8],
-    from: usize,
-    to: usize,
-    place: usize,
-) -> io::Result<()> {
-    if to < from {
+fn tell(rt: &impl Print, what: &[u8], file: &[u8], name: Part, place: usize) -> io::Result<()> {
+    let Some(name) = file.get(name.from..name.to) else {
         return Ok(());
-    }
-    if file.len() < to {
-        return Ok(());
-    }
+    };
     say(rt, what)?;
-    say(rt, &file[from..to])?;
+    say(rt, name)?;
     say(rt, b"\nplace=")?;
     rt.print(place as u64)?;
     say(rt, b"\n")
@@ -47,12 +37,9 @@ fn tell(
 fn tell_skipped(rt: &impl Print, file: &[u8]) -> io::Result<()> {
     let mut places = [0; MOST];
     let n = omissions::skipped(file, &mut places);
-    let m = lists::least(n, MOST);
-    let mut i = 0;
-    while i < m {
-        let name = tags::name_of(file, places[i]);
-        tell(rt, b"skipped=", file, name.from, name.to, places[i])?;
-        i += 1;
+    for place in &places[..n.min(MOST)] {
+        let name = tags::name_of(file, *place);
+        tell(rt, b"skipped=", file, name, *place)?;
     }
     Ok(())
 }
@@ -60,12 +47,9 @@ fn tell_skipped(rt: &impl Print, file: &[u8]) -> io::Result<()> {
 fn tell_unnamed(rt: &impl Print, file: &[u8]) -> io::Result<()> {
     let mut places = [0; TRIGGERS];
     let n = omissions::unnamed(file, &mut places);
-    let m = lists::least(n, TRIGGERS);
-    let mut i = 0;
-    while i < m {
-        let name = fields::value_at(file, places[i], b"name");
-        tell(rt, b"unnamed=", file, name.from, name.to, places[i])?;
-        i += 1;
+    for place in &places[..n.min(TRIGGERS)] {
+        let name = fields::value_at(file, *place, b"name");
+        tell(rt, b"unnamed=", file, name, *place)?;
     }
     Ok(())
 }

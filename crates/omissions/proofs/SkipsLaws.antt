@@ -6,7 +6,7 @@ use mathlib.Core.List.{List, [], ◌∷◌}
 use mathlib.Core.Bool.{true, false, ◌||◌}
 use lib.ListN.{length}
 use lib.Seq.{slice}
-use Rattle.shape.specs.declared.Shape.TheVariants.{Whole}
+use Rattle.std.specs.Prelude.{Ok}
 use Rattle.shape.specs.Shape.{Attribute, Node, node, Items, WellShaped, Shaped}
 use Rattle.walk.specs.declared.Item.{Item}
 use Rattle.walk.specs.declared.Body.{Body}
@@ -219,7 +219,7 @@ module _ (f : List ℕ) (q d : ℕ) (w : Sought) (z : Standing f (suc d) w) (ms 
     }
 
 -- ---- the root
-module _ (f : List ℕ) (s : Shaped f Whole) (at : ℕ) (h : at ≡ root_at f) where
+module _ (f : List ℕ) (s : Shaped f (Ok tt)) (at : ℕ) (h : at ≡ root_at f) where
   abbrev start : Sought
   start = record { at = at; count = 0 }
 

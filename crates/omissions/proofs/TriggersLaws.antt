@@ -9,6 +9,7 @@ use lib.Dec.{eqb}
 use lib.ListN.{length, replicate, length-map}
 use lib.Seq.{take-append_seam}
 use borrow.Author.Tests.{le-leb}
+use Rattle.std.specs.List.{list_any}
 use Rattle.lists.specs.Lists.{any, gathered}
 use Rattle.lists.proofs.Cases.{by_cases}
 use Rattle.text.specs.Texts.{bytes, same}
@@ -51,7 +52,7 @@ token_zero n NOT = refl
 token_zero n open' = refl
 token_zero n close' = refl
 
-tokens_zero : (n : List ℕ) (ts : List (Token (List ℕ))) → any (λ t. eqb t 0) (map (number_of (n ∷ [])) ts) ≡ any (is_word n) ts
+tokens_zero : (n : List ℕ) (ts : List (Token (List ℕ))) → list_any (λ t. eqb t 0) (map (number_of (n ∷ [])) ts) ≡ any (is_word n) ts
 unfolding any
 tokens_zero n [] = refl
 tokens_zero n (t ∷ ts) = rw (token_zero n t, tokens_zero n ts)

@@ -1,18 +1,20 @@
 -- What the functions answer of triggers and expressions, for every input. Code-shaped; proofs/ ties it to the definitions. Nothing here has
 -- to be believed.
-use Rattle.std.specs.Prelude.{ℕ, List, [], ◌∷◌, Bool, false, not, cond, eqb, take, drop}
+use Rattle.std.specs.Prelude.{Option, Some, None, ℕ, List, [], ◌∷◌, Bool, false, not, cond, eqb, take, drop}
+use Rattle.std.specs.List.{list_any}
 use Rattle.lists.specs.Lists.{any}
 use Rattle.text.specs.Texts.{bytes}
-use Rattle.grammar.specs.declared.Lexed.{Lexed}
-use Rattle.grammar.specs.TokensCode.{lexed}
+use Rattle.grammar.specs.declared.Words.{Words}
+use Rattle.grammar.specs.TokensCode.{words_in, lexed}
 use Rattle.element.specs.ElementCode.{is_kind, short_text, value_at}
 use Rattle.document.specs.EntriesCode.{Entry}
 use Rattle.tables.specs.RowsCode.{is_under}
 
 -- ---- words
 -- one of the tokens has the number 0
-abbrev pub zero_in : Lexed → Bool
-zero_in x = cond x.fine (any (λ t. eqb t 0) (take x.count x.tokens)) false
+abbrev pub zero_in : Option Words → Bool
+zero_in (Some w) = list_any (λ t. eqb t 0) (words_in w)
+zero_in None = false
 
 -- the text has the word n: of the tokens of a text that is read with this one name, it alone has the number 0
 unfoldable pub has_word : List ℕ → List ℕ → Bool

@@ -15,10 +15,10 @@ ghost use Rattle.omissions.specs.GoodCode.{GoodIs};
 mod skips;
 mod triggers;
 
-use converter::Converted;
 use document::ROOM;
 use schema::kinds;
-use tables::cells;
+use tables::cells::Entries;
+use tables::rows;
 
 // No plan is longer.
 const LONGEST: usize = 1590;
@@ -28,10 +28,7 @@ fn is_good(file: &[u8]) -> bool
     ensures { GoodIs file.now result }
 {
     let mut plan = [0; LONGEST];
-    match converter::convert(file, &mut plan) {
-        Converted::Words(n) => true,
-        Converted::Refused(number, place) => false,
-    }
+    converter::convert(file, &mut plan).is_ok()
 }
 
 // A place, if there is room for it.
@@ -54,18 +51,10 @@ pub fn skipped(file: &[u8], places: &mut [usize]) -> usize
 }
 
 // Is there a start action?
-fn has_start(entries: &[u32]) -> bool
-    ensures { result ≡ any (λ e. is_kind e.kind "ACTION_START_LOG") (entries_in entries.now) }
+fn has_start(words: &[u32]) -> bool
+    ensures { result ≡ any (λ e. is_kind e.kind "ACTION_START_LOG") (entries_in words.now) }
 {
-    let mut at = 0;
-    while at < entries.len() {
-        let kind = cells::kind_at(entries, at);
-        if kinds::is_same(kind, kinds::ACTION_START_LOG) {
-            return true;
-        }
-        at = cells::next(entries, at);
-    }
-    false
+    Entries { words }.any(|element| kinds::is_same(element.kind(), kinds::ACTION_START_LOG))
 }
 
 // Can nothing ever be recorded? Not where the file is refused.
@@ -76,10 +65,10 @@ pub fn is_silent(file: &[u8]) -> bool
         return false;
     }
     let mut entries = [0; ROOM];
-    let found = document::read_index(file, &mut entries);
-    let end = found.end;
-    let tables = tables::read_tables(file, &entries[..end]);
-    let told = tables.told;
+    let Ok(end) = document::read_index(file, &mut entries) else {
+        return false;
+    };
+    let told = rows::tell(file, &entries[..end]);
     let head = told.head;
     let starts = has_start(&entries[..end]);
     !head.all & !starts
@@ -93,7 +82,8 @@ pub fn unnamed(file: &[u8], places: &mut [usize]) -> usize
         return 0;
     }
     let mut entries = [0; ROOM];
-    let found = document::read_index(file, &mut entries);
-    let end = found.end;
+    let Ok(end) = document::read_index(file, &mut entries) else {
+        return 0;
+    };
     triggers::list(file, &entries[..end], places)
 }

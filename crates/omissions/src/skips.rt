@@ -2,10 +2,8 @@
 //
 // Promises: `find` tells the places that specs/Omissions.antt names `skipped_elements`, as many as there is room for, and how many there are.
 // May not touch: whether the file meets the rules; it is asked of files of good shape only.
-ghost use Rattle.std.specs.Prelude.{◌≡◌, suc};
-ghost use Rattle.shape.specs.declared.Shape.TheVariants.{Whole};
+ghost use Rattle.std.specs.Prelude.{◌≡◌, suc, Ok};
 ghost use Rattle.shape.specs.Shape.{Node, WellShaped, Shaped};
-ghost use Rattle.document.specs.DocumentCode.{child_at};
 ghost use Rattle.omissions.specs.Omissions.{skipped_elements};
 ghost use Rattle.omissions.specs.SkipsCode.{Standing, SoughtIs, SoughtIn};
 ghost use Rattle.omissions.specs.ToldCode.{Told};
@@ -20,23 +18,14 @@ pub struct Sought {
     pub count: usize,
 }
 
-// The kind of the element at j, under an element of the kind `parent`.
-fn kind_at(file: &[u8], j: usize, parent: usize) -> usize
-    ensures { result ≡ child_at file.now j parent }
-{
-    let name = tags::name_of(file, j);
-    let from = name.from;
-    let to = name.to;
-    kinds::kind_under(parent, &file[from..to])
-}
-
 // The element where the walk stands, under an element of the kind `parent`; elements nest at most `left` deep in it, itself included.
 #[cycle(seek_seek_inside)]
 fn seek(file: &[u8], parent: usize, left: usize, walk: Sought, places: &mut [usize]) -> Sought
     requires { Standing file.now left walk }
     ensures { SoughtIs file.now parent left walk places.old result places.new }
 {
-    let kind = kind_at(file, walk.at, parent);
+    let child = document::child_at(file, walk.at, parent);
+    let kind = child.kind;
     if kinds::is_carried(kind) | kinds::is_barred(kind) {
         return seek_inside(file, kind, left - 1, walk, places);
     }
@@ -60,7 +49,9 @@ fn seek_inside(file: &[u8], kind: usize, left: usize, walk: Sought, places: &mut
         Body::Empty(at) => Sought { at, count },
         Body::Open(at) => {
             let mut all = Sought { at, count };
+            // No iterator over items: where the next one stands the call for a child answers, so it would be written through at each turn.
             while all.at < file.len() {
+                // Text and comments stay two arms: joined, the loop's goals would have no names of the source's own.
                 match items::item_at(file, all.at) {
                     Item::Text(k) => {
                         all.at = k;
@@ -87,7 +78,7 @@ fn seek_inside(file: &[u8], kind: usize, left: usize, walk: Sought, places: &mut
 
 // The places of the elements that are skipped, in file order, at the front of what is lent; how many there are.
 pub(crate) fn find(file: &[u8], places: &mut [usize]) -> usize
-    requires { Shaped file.now Whole }
+    requires { Shaped file.now (Ok tt) }
     ensures { (x : Node) → WellShaped file.now x → Told (skipped_elements x) places.old result places.new }
 {
     let at = items::root_at(file);

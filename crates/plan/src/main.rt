@@ -1,6 +1,7 @@
 // Prints what the plan of the file on standard input says, or its refusal.
 //
-// Promises: the bytes are those of `printing::print_answer` for `Form::Plan`. A file longer than the buffer is cut there; it is still too long, and refused for that.
+// Promises: the bytes are those of `printing::print_answer` for `Form::Plan`. A file longer than the buffer is cut there; it is still too long, and
+// refused for that. `convert` is its twin but for the form: a program each, and what both do is `reading` and `printing`.
 #![tactic(auto)]
 
 use printing::Form;

@@ -12,27 +12,13 @@ use std::io;
 // Room for the input, in which two files have 32,768 bytes or more.
 const ROOM: usize = 131072;
 
-// The number that the digits spell, at most the room: a digit's low four bits are its worth.
-fn number(digits: &[u8]) -> usize
-    ensures { result ≤ 131072 }
-{
-    let mut n = 0;
-    let mut i = 0;
-    while i < digits.len() {
-        let d = digits[i] % 16;
-        n = lists::least(n * 10 + d as usize, ROOM);
-        i += 1;
-    }
-    n
-}
-
 // The offset behind n bytes from i, or the end.
 fn behind(s: &[u8], i: usize, n: usize) -> usize
     requires i_in_bounds { i ≤ length s.now }
     requires n_bound { n ≤ 131072 }
     ensures { result ≡ min (i + n) (length s.now) }
 {
-    i + lists::least(n, s.len() - i)
+    i + n.min(s.len() - i)
 }
 
 fn show(rt: &impl Print, title: &[u8], file: &[u8], words: &mut [u32]) -> io::Result<()> {
@@ -46,10 +32,11 @@ fn show(rt: &impl Print, title: &[u8], file: &[u8], words: &mut [u32]) -> io::Re
 
 fn cases(rt: &impl Print, input: &[u8], words: &mut [u32]) -> io::Result<()> {
     let mut i = 0;
+    // No `for`: a line says how long the file behind it is.
     while i < input.len() {
         let e = i + reading::place_of(b'\n', &input[i..]);
         let t = i + reading::place_of(b' ', &input[i..e]);
-        let n = number(&input[i..t]);
+        let n = reading::number(&input[i..t], ROOM as u32);
         let a = behind(input, e, 1);
         let b = behind(input, a, n);
         show(rt, &input[t..e], &input[a..b], words)?;

@@ -3,7 +3,7 @@ use Prim.Native.Nat.{ℕ, min}
 use mathlib.Core.Path.{◌≡◌, ap}
 use mathlib.Core.List.{List}
 use lib.ListN.{length}
-use Rattle.converter.specs.declared.Converted.{Converted}
+use Rattle.converter.specs.Converter.{Converted}
 use Rattle.converter.proofs.Once.{one_converted}
 use Rattle.printing.specs.Printing.{printed_over, Prints}
 

@@ -4,7 +4,7 @@ use mathlib.Core.Path.{◌≡◌}
 use mathlib.Core.List.{List}
 use native.Mathlib.Omega.{arith}
 use lib.ListN.{length}
-use Rattle.converter.specs.declared.Converted.{Converted}
+use Rattle.converter.specs.Converter.{Converted}
 use Rattle.printing.specs.Printing.{Prints}
 use Rattle.printing.proofs.Puts.{length_printed}
 

@@ -2,9 +2,8 @@
 use Prim.Native.String.{String}
 use Rattle.std.specs.Prelude.{ℕ, zero, suc, ◌+◌, ◌/◌, ◌%◌, min, List, [], ◌∷◌, ◌++◌, cond, ltb, length, get_or, take, drop}
 use Rattle.text.specs.Texts.{bytes}
-use Rattle.converter.specs.declared.Converted.{Converted}
-use Rattle.converter.specs.declared.Converted.TheVariants.{Words, Refused}
-use Rattle.converter.specs.Converter.{Converts}
+use Rattle.std.specs.Prelude.{Ok, Err}
+use Rattle.converter.specs.Converter.{Converts, Converted}
 use Rattle.printing.specs.declared.Form.{Form}
 use Rattle.printing.specs.declared.Form.TheVariants as forms
 
@@ -27,11 +26,11 @@ refusal_text n p = text_line "refused=" n ++ text_line "place=" p
 
 -- "the plan's second to sixth word and its length"
 unfoldable pub plan_text : Converted → List ℕ → List ℕ
-plan_text (Words n) ws =
+plan_text (Ok n) ws =
     text_line "channels=" (get_or ws 1 0)
     ++ (text_line "log_all=" (get_or ws 2 0) ++ (text_line "triggers=" (get_or ws 3 0)
     ++ (text_line "filters=" (get_or ws 4 0) ++ (text_line "statements=" (get_or ws 5 0) ++ text_line "words=" n))))
-plan_text (Refused n p) ws = refusal_text n p
+plan_text (Err r) ws = refusal_text r.number r.place
 
 -- each word's line, in order
 unfoldable pub word_lines : List ℕ → List ℕ
@@ -39,8 +38,8 @@ word_lines [] = []
 word_lines (w ∷ ws) = text_line "" w ++ word_lines ws
 
 unfoldable pub words_text : Converted → List ℕ → List ℕ
-words_text (Words n) ws = word_lines (take n ws)
-words_text (Refused n p) ws = refusal_text n p
+words_text (Ok n) ws = word_lines (take n ws)
+words_text (Err r) ws = refusal_text r.number r.place
 
 -- the program `plan`, the program `convert`
 unfoldable pub form_text : Form → Converted → List ℕ → List ℕ

@@ -4,15 +4,15 @@
 // May not touch: standard input and output. The programs read and write.
 #![tactic(auto)]
 
-ghost use Rattle.std.specs.Prelude.{◌≤◌, ◌≡◌, [], ◌∷◌, ◌++◌, length, get_or, take};
+ghost use Rattle.std.specs.Prelude.{◌≡◌, ◌++◌, get_or, take, Ok};
 ghost use Rattle.text.specs.Texts.{bytes};
-ghost use Rattle.converter.specs.declared.Converted.TheVariants.{Words};
-ghost use Rattle.printing.specs.Printing.{digits_of, decimal, refusal_text, plan_text, word_lines, form_text, Prints};
-ghost use Rattle.printing.specs.PrintingCode.{Put, Adds};
+ghost use Rattle.printing.specs.Printing.{decimal, refusal_text, plan_text, word_lines, form_text, Prints};
+ghost use Rattle.printing.specs.PrintingCode.{Put};
 
-use converter::Converted;
+use itoa::Buffer;
 
-// Whose text is wanted: that of the program `plan`, or that of the program `convert`.
+// Whose text is wanted: that of the program `plan`, or that of the program `convert`. An enum and no closure: `print_answer`'s contract names the
+// text of each (`form_text`).
 #[derive(Clone, Copy)]
 pub enum Form {
     Plan,
@@ -23,90 +23,52 @@ pub enum Form {
 fn word(words: &[u32], i: usize) -> u64
     ensures { result ≡ get_or words.now i 0 }
 {
-    if i < words.len() {
-        return words[i] as u64;
-    }
-    0
+    words.get(i).map_or(0, |x| u64::from(*x))
 }
 
-// Writes a byte at an offset, if there is room, and answers the offset behind it. All below do so.
-fn put_byte(b: u8, out: &mut [u8], at: usize) -> usize
-    requires { at ≤ length out.old }
-    ensures { Adds (b ∷ []) at out.old result out.new }
+// Writes a text at the front of the buffer, as much of it as there is room for, and answers how many bytes that are. All below do so.
+fn put(text: &[u8], out: &mut [u8]) -> usize
+    ensures { Put text.now out.old result out.new }
 {
-    if at < out.len() {
-        out[at] = b;
-        return at + 1;
-    }
-    at
+    let n = text.len().min(out.len());
+    out[..n].copy_from_slice(&text[..n]);
+    n
 }
 
-fn put(text: &[u8], out: &mut [u8], from: usize) -> usize
-    requires { from ≤ length out.old }
-    ensures { Adds text.now from out.old result out.new }
+fn put_line(name: &[u8], n: u64, out: &mut [u8]) -> usize
+    ensures { Put (name.now ++ (decimal n ++ bytes "\n")) out.old result out.new }
 {
-    let mut at = from;
-    let mut i = 0;
-    while i < text.len() {
-        at = put_byte(text[i], out, at);
-        i += 1;
-    }
-    at
-}
-
-// The digits in front first.
-fn put_digits(places: usize, n: u64, out: &mut [u8], at: usize) -> usize
-    requires { at ≤ length out.old }
-    ensures { Adds (digits_of places n) at out.old result out.new }
-{
-    if places == 0 {
-        return at;
-    }
-    if n < 10 {
-        return put_byte(b'0' + n as u8, out, at);
-    }
-    let last = n % 10;
-    let behind = put_digits(places - 1, n / 10, out, at);
-    put_byte(b'0' + last as u8, out, behind)
-}
-
-fn put_line(name: &[u8], n: u64, out: &mut [u8], at: usize) -> usize
-    requires { at ≤ length out.old }
-    ensures { Adds (name.now ++ (decimal n ++ bytes "\n")) at out.old result out.new }
-{
-    let digits_at = put(name, out, at);
-    let end = put_digits(20, n, out, digits_at);
-    put_byte(b'\n', out, end)
+    let mut digits = Buffer::new();
+    let digits_at = put(name, out);
+    let end = digits_at + put(digits.format(n).as_bytes(), &mut out[digits_at..]);
+    end + put(b"\n", &mut out[end..])
 }
 
 fn put_refusal(n: u32, p: usize, out: &mut [u8]) -> usize
     ensures { Put (refusal_text n p) out.old result out.new }
 {
-    let place_at = put_line(b"refused=", n as u64, out, 0);
-    put_line(b"place=", p as u64, out, place_at)
+    let place_at = put_line(b"refused=", u64::from(n), out);
+    place_at + put_line(b"place=", p as u64, &mut out[place_at..])
 }
 
 fn put_summary(n: usize, words: &[u32], out: &mut [u8]) -> usize
-    ensures { Put (plan_text (Words n) words.now) out.old result out.new }
+    ensures { Put (plan_text (Ok n) words.now) out.old result out.new }
 {
-    let all_at = put_line(b"channels=", word(words, 1), out, 0);
-    let triggers_at = put_line(b"log_all=", word(words, 2), out, all_at);
-    let filters_at = put_line(b"triggers=", word(words, 3), out, triggers_at);
-    let statements_at = put_line(b"filters=", word(words, 4), out, filters_at);
-    let words_at = put_line(b"statements=", word(words, 5), out, statements_at);
-    put_line(b"words=", n as u64, out, words_at)
+    let mut at = put_line(b"channels=", word(words, 1), out);
+    at += put_line(b"log_all=", word(words, 2), &mut out[at..]);
+    at += put_line(b"triggers=", word(words, 3), &mut out[at..]);
+    at += put_line(b"filters=", word(words, 4), &mut out[at..]);
+    at += put_line(b"statements=", word(words, 5), &mut out[at..]);
+    at + put_line(b"words=", n as u64, &mut out[at..])
 }
 
 // The first n words, or all where there are fewer.
 fn put_lines(n: usize, words: &[u32], out: &mut [u8]) -> usize
     ensures { Put (word_lines (take n words.now)) out.old result out.new }
 {
-    let m = lists::least(n, words.len());
     let mut at = 0;
-    let mut i = 0;
-    while i < m {
-        at = put_line(b"", word(words, i), out, at);
-        i += 1;
+    for w in &words[..n.min(words.len())] {
+        at += put_line(b"", u64::from(*w), &mut out[at..]);
     }
     at
 }
@@ -116,10 +78,10 @@ pub fn print_answer(form: Form, file: &[u8], words: &mut [u32], text: &mut [u8])
     ensures { Prints (form_text form) file.now words.old text.old result words.new text.new }
 {
     match converter::convert(file, words) {
-        Converted::Words(n) => match form {
+        Ok(n) => match form {
             Form::Plan => put_summary(n, words, text),
             Form::Words => put_lines(n, words, text),
         },
-        Converted::Refused(n, p) => put_refusal(n, p, text),
+        Err(refusal) => put_refusal(refusal.number, refusal.place, text),
     }
 }

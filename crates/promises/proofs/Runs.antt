@@ -12,11 +12,11 @@ use Rattle.lists.proofs.Cases.{by_cases}
 use Rattle.lists.proofs.Parts.{and_left, and_right}
 use Rattle.shape.specs.Shape.{Node, WellShaped}
 use Rattle.shape.proofs.OneDoc.{one_doc}
-use Rattle.code.specs.declared.Value.TheVariants.{Is}
+use Rattle.std.specs.Prelude.{Option, Some}
 use Rattle.code.specs.Code.{Runs}
 use Rattle.code.proofs.Sound.{sound_code_lem}
 use Rattle.records.specs.Records.{PlanStatement, sum_from}
-use Rattle.loader.specs.declared.Loaded.{Loaded}
+use Rattle.loader.specs.declared.Layout.{Layout}
 use Rattle.loader.specs.Plan.{PlanOf, Loads, load_refusal, statement_in}
 use Rattle.grammar.specs.Tree.{Expression, mean}
 use Rattle.grammar.specs.Outcome.{state_of}
@@ -27,13 +27,14 @@ use Rattle.file_rules.specs.Reading.{is, filter_of}
 use Rattle.file_rules.specs.Document.{known_elements}
 use Rattle.file_rules.specs.Tables.{kept, is_in, channels_of, actions_of, expression_of, names_of}
 use Rattle.document.proofs.Stood.{All}
-use Rattle.converter.specs.declared.Converted.TheVariants.{Words}
+use Rattle.std.specs.Prelude.{Ok}
 use Rattle.converter.specs.Converter.{plan_for, Converts}
 use Rattle.read_back.proofs.Takes.{Plain, Coded, TakenBack, loader_takes}
+use Rattle.event_rules.specs.declared.Event.{Event}
 use Rattle.event_rules.specs.declared.Engine.{Engine}
 use Rattle.event_rules.specs.declared.Counts.{Counts}
 use Rattle.event_rules.specs.declared.Outcome.{Outcome}
-use Rattle.event_rules.specs.Rules.{Statement, MessageFilter, Config, Event}
+use Rattle.event_rules.specs.Rules.{Statement, MessageFilter, Config}
 use Rattle.event_rules.specs.Calls.{step, statement_of, filter_rule, config_of, Answers}
 use Rattle.event_rules.proofs.Faults.{code_in, statements_in_range}
 use Rattle.event_rules.proofs.Filters.{on_channels}
@@ -82,7 +83,7 @@ module _ (names : List (List ℕ)) where
   statement_same k code s g o =
       let h : (made k code).holds ≡ s.holds =
       fun_ext (λ states. g.value states
-      ∙ ap (λ (e : Expression (List ℕ)). Is (mean e (state_of names states))) (only_tree g.reads o.written)
+      ∙ ap (λ (e : Expression (List ℕ)). Some (mean e (state_of names states))) (only_tree g.reads o.written)
       ∙ sym (o.holds states)) in
       λ i. record { post = sym o.post i; actions = sym o.actions i; holds = h i }
 
@@ -149,7 +150,7 @@ module _ (s ws : List ℕ) (b : TakenBack s ws) where
     }
 
 -- ---- demand 3
-module _ (s d : List ℕ) (n : ℕ) (out : List ℕ) (h : Converts s d (Words n) out) where
+module _ (s d : List ℕ) (n : ℕ) (out : List ℕ) (h : Converts s d (Ok n) out) where
   abbrev back : TakenBack s (take n out)
   back = loader_takes s d n out h
 
@@ -165,7 +166,7 @@ module _ (s d : List ℕ) (n : ℕ) (out : List ℕ) (h : Converts s d (Words n)
     pub same_run_as : (c : Config) → Says (known_elements x) c → SameRun (take n out) c
     same_run_as c o = same_run s (take n out) back c (subst (λ (y : Node). Says (known_elements y) c) (sym its_document) o)
 
-  pub plan_taken : (r : Loaded) → Loads (take n out) r → load_refusal r ≡ none
+  pub plan_taken : (r : Option Layout) → Loads (take n out) r → load_refusal r ≡ none
   plan_taken r l = ap load_refusal (back.takes r l)
 
 -- code that the loader takes

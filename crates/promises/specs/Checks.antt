@@ -1,10 +1,9 @@
 -- Paper 01, "Checks by hand": those marked "Proved", as one table.
 use Rattle.std.specs.Prelude.{ℕ, ◌≡◌, List, [], ◌∷◌, map, Bool, true, false, replicate}
+use Rattle.std.specs.Prelude as std
 use Prim.Native.String.{String}
 use Rattle.std.proofs.Math.Option.{Option, none, some}
 use Rattle.text.specs.Texts.{bytes}
-use Rattle.values.specs.declared.Number.{Number}
-use Rattle.values.specs.declared.Number.TheVariants.{Value, Nothing}
 use Rattle.values.specs.NumbersCode.{number_spelt}
 use Rattle.grammar.specs.Outcome.{Becomes}
 use Rattle.records.specs.declared.Cause.TheVariants.{Id}
@@ -12,7 +11,9 @@ use Rattle.records.specs.declared.Timeout.TheVariants.{Ms}
 use Rattle.records.specs.declared.Trigger.{Trigger}
 use Rattle.records.specs.declared.Effect.TheVariants.{Pass, Stop}
 use Rattle.records.specs.declared.Filter.{Filter}
-use Rattle.event_rules.specs.Rules.{Event, frame, tick, passes, states, firings}
+use Rattle.event_rules.specs.declared.Event.{Event}
+use Rattle.event_rules.specs.declared.Event.TheVariants.{Frame as frame, Tick as tick}
+use Rattle.event_rules.specs.Rules.{passes, states, firings}
 use Rattle.event_rules.specs.Calls.{fresh, filter_rule}
 
 -- "with a, b, c as 0, 1, 2"
@@ -39,7 +40,7 @@ state_at u = states hundred false (tick u) (firings hundred false (id_frame 5000
 -- a row: an expression with its refusal or its code, a number, an identifier that passes or not, a time with the trigger's state
 pub data Check : Type 0 where
   expression : String → Option ℕ → List ℕ → Check
-  spelling : String → Number → Check
+  spelling : String → std.Option ℕ → Check
   identifier : ℕ → Bool → Check
   time : ℕ → Bool → Check
 
@@ -58,10 +59,10 @@ table =
     expression "a AND" (some 11) [] ∷
     expression "a b" (some 11) [] ∷
     expression "d" (some 12) [] ∷
-    spelling "0x6e" (Value 110) ∷
-    spelling "0007" (Value 7) ∷
-    spelling "1,500" Nothing ∷
-    spelling "0x" Nothing ∷
+    spelling "0x6e" (std.Some 110) ∷
+    spelling "0007" (std.Some 7) ∷
+    spelling "1,500" std.None ∷
+    spelling "0x" std.None ∷
     identifier 150 true ∷
     identifier 99 false ∷
     time 104999 true ∷

@@ -1,9 +1,8 @@
 -- Paper 01, "Values", "Expressions" and "One event", read off the document: the configuration of the file itself. It shares no code with
 -- the plan: a filter is on the channels that its CHANNELs name, an expression is the tree that it is written as, with its brackets, and a
 -- name in it has the state of the trigger of that name.
-use Rattle.std.specs.Prelude.{ℕ, ◌≡◌, List, [], ◌∷◌, map, Bool, cond, ◌&&◌, leb, eqb, length}
+use Rattle.std.specs.Prelude.{ℕ, ◌≡◌, List, [], ◌∷◌, map, Bool, cond, ◌&&◌, leb, eqb, length, Some}
 use Rattle.lists.specs.Lists.{any}
-use Rattle.code.specs.declared.Value.TheVariants.{Is}
 use Rattle.records.specs.declared.Effect.TheVariants.{Pass, Stop}
 use Rattle.records.specs.Records.{dlc_top}
 use Rattle.grammar.specs.Tree.{Expression, mean}
@@ -30,7 +29,7 @@ pub record SaysStatement (names : List (List ℕ)) (k : Known) (s : Statement) :
   pub written : ReadsAs (expression_of k) tree
   pub post : s.post ≡ value_of k "posttrigger"
   pub actions : s.actions ≡ actions_of k
-  pub holds : (states : List Bool) → s.holds states ≡ Is (mean tree (state_of names states))
+  pub holds : (states : List Bool) → s.holds states ≡ Some (mean tree (state_of names states))
 
 pub data SaysStatements (names : List (List ℕ)) : List Known → List Statement → Type 0 where
   over : SaysStatements names [] []

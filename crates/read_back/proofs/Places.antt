@@ -11,9 +11,9 @@ use lib.ListN.{length, length-append, length-map}
 use borrow.Author.Tests.{leb-true}
 use Rattle.text.specs.Texts.{same}
 use Rattle.lists.proofs.Cases.{by_cases, same_pair}
-use Rattle.shape.specs.declared.Shape.{Shape}
-use Rattle.shape.specs.declared.Shape.TheVariants.{Whole, TooLong, Broken}
-use Rattle.shape.specs.Shape.{Node, node, WellShaped, Shaped, shape_refusal}
+use Rattle.std.specs.Prelude.{Ok, Err}
+use Rattle.shape.specs.declared.Unshaped.TheVariants.{TooLong, Broken}
+use Rattle.shape.specs.Shape.{Shape, Node, node, WellShaped, Shaped, shape_refusal}
 use Rattle.walk.specs.WalkCode.{root_at}
 use Rattle.walk.proofs.WalkLaws.{root_law, element_law}
 use Rattle.records.specs.Records.{PlanStatement, trigger_words, filter_words, action_word, statement_words, timeout_word, trigger_in, filter_in}
@@ -28,7 +28,8 @@ use Rattle.file_rules.specs.Document.{known_elements, place_of, lacks, element_f
 use Rattle.document.proofs.Stood.{Stood, All, all_stood}
 use Rattle.file_rules.specs.Tables.{kept, is_in, within, name_of, expressions_of, expression_of, names_of, used_names, gap, channel_named, channels_in, table_faults}
 use Rattle.tables.proofs.Nested.{all_mapped, all_within, all_kept}
-use Rattle.converter.specs.declared.Converted.TheVariants.{Words, Refused}
+use Rattle.std.specs.Prelude.{Ok, Err}
+use Rattle.file_rules.specs.RefusalCode.{refused_at}
 use Rattle.converter.specs.Converter.{plan_for, fault_of, Composes, Judged, Meets, Refuses, Converts}
 use Rattle.read_back.proofs.Takes.{is_in_range, no_faults}
 use Rattle.lists.specs.Lists.{any, all, gathered}
@@ -254,11 +255,11 @@ meets_top s ws m =
 
 -- ---- refusals 1 and 2
 shape_low : (s : List ℕ) (a : Shape) (n p : ℕ) → Shaped s a → shape_refusal a ≡ some (n, p) → (1 ≤ n) × (n ≤ 13) × (p ≤ 32768)
-shape_low s Whole n p h e = absurd (none-ne-some (n, p) e)
-shape_low s TooLong n p h e =
+shape_low s (Ok u) n p h e = absurd (none-ne-some (n, p) e)
+shape_low s (Err TooLong) n p h e =
     let g = same_pair _ refl e in
     (omega (arith, g.0), omega (arith, g.0), omega (arith, g.1))
-shape_low s (Broken q) n p h e =
+shape_low s (Err (Broken q)) n p h e =
     let g = same_pair _ refl e in
     (omega (arith, g.0), omega (arith, g.0), omega (arith, g.1, h.0, h.1.1.within))
 
@@ -271,14 +272,14 @@ refusal_top s room n p (Refuses.by_room ws m r e g) =
     let t = meets_top s ws m in
     (omega (arith, e), omega (arith, e), omega (arith, g, t))
 
-pub places : (s d : List ℕ) (n p : ℕ) (e : List ℕ) → Converts s d (Refused n p) e → (1 ≤ n) × (n ≤ 13) × (p ≤ 32768)
-places s d n p e (Converts.refuses m q h) = refusal_top s (length d) n p h
+pub places : (s d : List ℕ) (n p : ℕ) (e : List ℕ) → Converts s d (Err (refused_at n p)) e → (1 ≤ n) × (n ≤ 13) × (p ≤ 32768)
+places s d n p e (Converts.refuses u h) = refusal_top s (length d) n p h
 
-pub lengths : (s d : List ℕ) (n : ℕ) (e : List ℕ) → Converts s d (Words n) e → n ≤ 1590
+pub lengths : (s d : List ℕ) (n : ℕ) (e : List ℕ) → Converts s d (Ok n) e → n ≤ 1590
 lengths s d n e (Converts.converts ws m l) = meets_top s ws m
 
-pub fits : (s d : List ℕ) (n p : ℕ) (e : List ℕ) → Converts s d (Refused n p) e → (n ≤ 13) × (p < 4294967296)
+pub fits : (s d : List ℕ) (n p : ℕ) (e : List ℕ) → Converts s d (Err (refused_at n p)) e → (n ≤ 13) × (p < 4294967296)
 fits s d n p e h = let g = places s d n p e h in (g.1, omega (arith, g.2))
 
-pub words_fit : (s d : List ℕ) (n : ℕ) (e : List ℕ) → Converts s d (Words n) e → n < 4294967296
+pub words_fit : (s d : List ℕ) (n : ℕ) (e : List ℕ) → Converts s d (Ok n) e → n < 4294967296
 words_fit s d n e h = let g = lengths s d n e h in omega (arith, g)

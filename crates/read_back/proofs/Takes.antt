@@ -14,8 +14,8 @@ use Rattle.lists.proofs.Cases.{le_or_lt}
 use Rattle.shape.specs.Shape.{Node, WellShaped}
 use Rattle.records.specs.declared.Filter.{Filter}
 use Rattle.records.specs.Records.{PlanStatement, trigger_in, filter_in, sum_from}
-use Rattle.loader.specs.declared.Loaded.{Loaded}
-use Rattle.loader.specs.declared.Loaded.TheVariants.{Taken}
+use Rattle.std.specs.Prelude.{Option as Maybe, Some}
+use Rattle.loader.specs.declared.Layout.{Layout}
 use Rattle.loader.specs.Plan.{statement_in, in_range, PlanOf, Loads, layout_of}
 use Rattle.loader.proofs.Exact.{loads_once, one_plan}
 use Rattle.grammar.specs.Outcome.{Becomes}
@@ -36,7 +36,7 @@ use Rattle.tables.proofs.Nested.{Nested, all_within, all_inner, all_mapped, all_
 use Rattle.tables.proofs.Entries.{faultless_parts, all_nested}
 use Rattle.tables.proofs.Counts.{few_triggers, few_filters, few_statements, few_parameters, some_parameters, all_formed, held_kept, any_none}
 use Rattle.converter.specs.Converter.{plan_for, fault_of, Composes, Judged, Meets, Converts}
-use Rattle.converter.specs.declared.Converted.TheVariants.{Words}
+use Rattle.std.specs.Prelude.{Ok}
 use Rattle.read_back.proofs.Ranges.{paired, trigger_in_lem, filter_case, filter_in_lem, post_in}
 use Rattle.records.proofs.Masks.{mask_some, mask_below}
 use Rattle.lists.specs.Lists.{any, all, gathered}
@@ -298,7 +298,7 @@ pub record TakenBack (s ws : List ℕ) : Type 0 where
   pub coded : Coded (names_of (known_elements document)) (kept (is "STATEMENT") (known_elements document)) statements
   pub filters : All Plain (kept (is_in "FILTERS") (known_elements document))
   pub is_plan_lem : PlanOf ws
-  pub takes : (r : Loaded) → Loads ws r → r ≡ Taken (layout_of (plan_for statements (known_elements document)))
+  pub takes : (r : Maybe Layout) → Loads ws r → r ≡ Some (layout_of (plan_for statements (known_elements document)))
   pub reads_back : (p : PlanOf ws) → p.plan ≡ plan_for statements (known_elements document)
 
 -- the parts of a judgement without faults
@@ -329,6 +329,6 @@ meets_plan s ws m =
       reads_back = λ p. one_plan p spelt;
     }
 
-pub loader_takes : (s d : List ℕ) (count : ℕ) (out : List ℕ) → Converts s d (Words count) out → TakenBack s (take count out)
+pub loader_takes : (s d : List ℕ) (count : ℕ) (out : List ℕ) → Converts s d (Ok count) out → TakenBack s (take count out)
 loader_takes s d count out (Converts.converts ws m l) =
     subst (TakenBack s) (sym (take-append_seam ws (drop (length ws) d))) (meets_plan s ws m)

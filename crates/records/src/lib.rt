@@ -74,17 +74,43 @@ pub enum Action {
 pub fn word(words: &[u32], i: usize) -> u32
     ensures { result ≡ get_or words.now i 0 }
 {
-    if i < words.len() { words[i] } else { 0 }
+    words.get(i).copied().unwrap_or(0)
 }
 
 // The timeout that a word stands for.
-pub fn timeout_at(w: u32) -> Timeout
-    ensures { result ≡ timeout_at w }
-{
-    if w == 4294967295 {
-        Timeout::Forever
-    } else {
-        Timeout::Ms(w)
+impl From<u32> for Timeout {
+    ghost from_gives = { λ w t. t ≡ timeout_at w };
+
+    fn from(w: u32) -> Timeout {
+        match w {
+            u32::MAX => Timeout::Forever,
+            ms => Timeout::Ms(ms),
+        }
+    }
+}
+
+// The effect that the first word of a filter stands for.
+impl From<u32> for Effect {
+    ghost from_gives = { λ w e. e ≡ effect_at w };
+
+    fn from(w: u32) -> Effect {
+        match w {
+            1 => Effect::Pass,
+            _ => Effect::Stop,
+        }
+    }
+}
+
+// The action that a word of a statement stands for.
+impl From<u32> for Action {
+    ghost from_gives = { λ w a. a ≡ action_at w };
+
+    fn from(w: u32) -> Action {
+        match w {
+            1 => Action::StartLog,
+            2 => Action::StopLog,
+            _ => Action::StopLogCompletely,
+        }
     }
 }
 
@@ -92,76 +118,41 @@ pub fn timeout_at(w: u32) -> Timeout
 pub fn trigger_at(rec: &[u32]) -> Trigger
     ensures { result ≡ trigger_at rec.now }
 {
-    let kind = word(rec, 0);
     let channel = word(rec, 1);
-    let timeout = timeout_at(word(rec, 2));
     let lower = word(rec, 4);
     let upper = word(rec, 5);
-    match kind {
-        1 => {
-            let ext = word(rec, 3) == 1;
-            let cause = Cause::Id {
-                channel,
-                ext,
-                lower,
-                upper,
-            };
-            Trigger { cause, timeout }
-        }
-        2 => {
-            let cause = Cause::Length {
-                channel,
-                lower,
-                upper,
-            };
-            Trigger { cause, timeout }
-        }
-        3 => Trigger {
-            cause: Cause::Error(channel),
-            timeout,
+    let cause = match word(rec, 0) {
+        1 => Cause::Id {
+            channel,
+            ext: word(rec, 3) == 1,
+            lower,
+            upper,
         },
-        _ => Trigger {
-            cause: Cause::Startup,
-            timeout,
+        2 => Cause::Length {
+            channel,
+            lower,
+            upper,
         },
+        3 => Cause::Error(channel),
+        _ => Cause::Startup,
+    };
+    Trigger {
+        cause,
+        timeout: Timeout::from(word(rec, 2)),
     }
-}
-
-fn effect_at(w: u32) -> Effect
-    ensures { result ≡ effect_at w }
-{
-    if w == 1 { Effect::Pass } else { Effect::Stop }
 }
 
 // The filter whose record the words start with.
 pub fn filter_at(rec: &[u32]) -> Filter
     ensures { result ≡ filter_at rec.now }
 {
-    let effect = effect_at(word(rec, 0));
-    let mask = word(rec, 1);
-    let ext = word(rec, 2) == 1;
-    let lower = word(rec, 3);
-    let upper = word(rec, 4);
-    let shortest = word(rec, 5);
-    let longest = word(rec, 6);
     Filter {
-        effect,
-        mask,
-        ext,
-        lower,
-        upper,
-        shortest,
-        longest,
-    }
-}
-
-// The action that a word of a statement stands for.
-pub fn action_at(w: u32) -> Action
-    ensures { result ≡ action_at w }
-{
-    match w {
-        1 => Action::StartLog,
-        2 => Action::StopLog,
-        _ => Action::StopLogCompletely,
+        effect: Effect::from(word(rec, 0)),
+        mask: word(rec, 1),
+        ext: word(rec, 2) == 1,
+        lower: word(rec, 3),
+        upper: word(rec, 4),
+        shortest: word(rec, 5),
+        longest: word(rec, 6),
     }
 }

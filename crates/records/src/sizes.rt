@@ -5,7 +5,7 @@ ghost use Rattle.std.specs.Prelude.{◌≡◌, ◌<◌};
 ghost use Rattle.records.specs.Records.{id_top};
 ghost use Rattle.records.specs.RecordsCode.{trigger_size, filter_size, statement_size};
 
-// The number of words of the record that the words start with, by its kind.
+// The number of words of the record that the words start with, by its kind. Two functions for two constants: the loader takes each by its name.
 pub fn trigger_size(rec: &[u32]) -> usize
     ensures { result ≡ trigger_size rec.now }
 {
@@ -18,17 +18,11 @@ pub fn filter_size(rec: &[u32]) -> usize
     7
 }
 
-fn wide(x: u32) -> usize
-    ensures { (result ≡ x) × (result < 4294967296) }
-{
-    x as usize
-}
-
 pub fn statement_size(rec: &[u32]) -> usize
     ensures { (result ≡ statement_size rec.now) × (result < 8589934600) }
 {
-    let actions = wide(crate::word(rec, 1));
-    let words = wide(crate::word(rec, 2));
+    let actions = crate::word(rec, 1) as usize;
+    let words = crate::word(rec, 2) as usize;
     3 + actions + words
 }
 

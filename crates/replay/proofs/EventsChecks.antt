@@ -5,7 +5,7 @@ use mathlib.Core.Bool.{true, false}
 use Prim.Native.Nat.{ℕ}
 use Rattle.event_rules.specs.declared.Logging.TheVariants.{EndingCompletely}
 use Rattle.event_rules.specs.declared.Answer.TheVariants as answers
-use Rattle.event_rules.specs.Rules.{frame, tick}
+use Rattle.event_rules.specs.declared.Event.TheVariants.{Frame as frame, Tick as tick}
 use Rattle.replay.specs.Wire.{from_bytes, bytes_of, bytes_at, frame_at, event_at, answer_bytes}
 
 -- an event's data, and eight bytes that are not looked at

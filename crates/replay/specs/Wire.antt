@@ -1,13 +1,15 @@
 -- Paper 01, "One event" (its events and answers), as bytes of a replay: an event is 32 bytes, and so is an answer; numbers low byte first.
 use Rattle.std.specs.Prelude.{ℕ, zero, suc, ◌+◌, ◌*◌, ◌/◌, ◌%◌, List, [], ◌∷◌, ◌++◌, Bool, cond, get_or, eqb}
 use Rattle.event_rules.specs.declared.Frame.{Frame}
+use Rattle.event_rules.specs.declared.Event.{Event}
+use Rattle.event_rules.specs.declared.Event.TheVariants.{Frame as frame, Tick as tick}
 use Rattle.event_rules.specs.declared.Logging.{Logging}
 use Rattle.event_rules.specs.declared.Logging.TheVariants.{Off, On, Ending, EndingCompletely, Halted}
 use Rattle.event_rules.specs.declared.Answer.{Answer}
 use Rattle.event_rules.specs.declared.Outcome.{Outcome}
 use Rattle.event_rules.specs.declared.Answer.TheVariants as answers
 use Rattle.event_rules.specs.declared.Answer.TheVariants.{Recorded, Idle, Stopped, Ticked, Refused}
-use Rattle.event_rules.specs.Rules.{Event, frame, tick}
+use Rattle.event_rules.specs.Calls.{refusal_number}
 
 -- a number from its bytes, and its bytes
 unfoldable pub from_bytes : List ℕ → ℕ
@@ -45,7 +47,7 @@ event_at s = cond (eqb (get_or s 0 0) 0) (tick (frame_at s).time) (frame (frame_
 
 -- 0 answer (0 Recorded, 1 Idle, 2 Stopped, 3 Halted, 4 Ticked, or the refusal number 20 to 25)
 abbrev pub answer_byte : Answer → ℕ
-answer_byte a = elim a [ Recorded ↦ 0 | Idle ↦ 1 | Stopped ↦ 2 | answers.Halted ↦ 3 | Ticked ↦ 4 | Refused n ↦ n % 256 ]
+answer_byte a = elim a [ Recorded ↦ 0 | Idle ↦ 1 | Stopped ↦ 2 | answers.Halted ↦ 3 | Ticked ↦ 4 | Refused r ↦ refusal_number r ]
 
 -- 1 logging state (0 Off, 1 On, 2 ending, 3 ending completely, 4 Halted)
 abbrev pub logging_byte : Logging → ℕ

@@ -1,13 +1,12 @@
 // The bytes of an answer.
 //
-// Promises: `put_answer` writes the 32 bytes of an answer at the front of a buffer, or leaves one that is shorter as it was (specs/Wire.antt).
-ghost use Rattle.std.specs.Prelude.{◌≡◌, List, ◌++◌, Bool, ℕ, ◌+◌, ◌≤◌, length, take, drop};
-ghost use Rattle.event_rules.specs.declared.Firing.{Firing};
-ghost use Rattle.replay.specs.Wire.{bytes_of, answer_byte, logging_byte, end_time};
-ghost use Rattle.replay.specs.ReplayCode.{with_answer};
+// Promises: `answer_bytes` gives the 32 bytes of an answer (specs/Wire.antt).
+ghost use Rattle.std.specs.Prelude.{◌≡◌, List, Bool, ℕ, Option};
+ghost use Rattle.replay.specs.Wire.{answer_byte, logging_byte, end_time, answer_bytes};
 
 use event_rules::{Answer, Counts, Logging};
 
+// No From, here and below: these bytes are those of a replay alone (specs/Wire.antt).
 fn answer_byte(a: Answer) -> u8
     ensures { result ≡ answer_byte a }
 {
@@ -17,7 +16,7 @@ fn answer_byte(a: Answer) -> u8
         Answer::Stopped => 2,
         Answer::Halted => 3,
         Answer::Ticked => 4,
-        Answer::Refused(n) => (n % 256) as u8,
+        Answer::Refused(refusal) => refusal.number(),
     }
 }
 
@@ -37,42 +36,22 @@ fn end_time(l: Logging) -> u64
     ensures { result ≡ end_time l }
 {
     match l {
-        Logging::Off => 0,
-        Logging::On => 0,
-        Logging::Ending(e) => e,
-        Logging::EndingCompletely(e) => e,
-        Logging::Halted => 0,
+        Logging::Ending(e) | Logging::EndingCompletely(e) => e,
+        Logging::Off | Logging::On | Logging::Halted => 0,
     }
 }
 
-// Writes a number's bytes at `at`, low byte first.
-fn put_number(out: &mut [u8], at: usize, x: u64, size: usize)
-    requires { at + size ≤ length out.old }
-    ensures { out.new ≡ take at out.old ++ (bytes_of size x ++ drop (at + size) out.old) }
+// An answer's bytes, numbers low byte first. Of the engine they tell the logging state alone: what else it holds may be anything.
+pub(crate) fn answer_bytes(answer: Answer, logging: Logging, counts: Counts) -> [u8; 32]
+    ensures { (fired : List (Option ℕ)) → (truth : List Bool) → (started : Bool) → (last : ℕ) → result ≡ answer_bytes (record { answer = answer; engine = record { logging = logging; fired = fired; truth = truth; started = started; last = last }; counts = counts }) }
 {
-    let mut left = x;
-    let mut i = 0;
-    while i < size {
-        out[at + i] = (left % 256) as u8;
-        left = left / 256;
-        i += 1;
-    }
-}
-
-// Writes an answer's bytes at the front of `out`, where it has room for them. Of the engine they tell the logging state alone: what else it holds
-// may be anything.
-pub(crate) fn put_answer(out: &mut [u8], answer: Answer, logging: Logging, counts: Counts)
-    ensures { (fired : List Firing) → (truth : List Bool) → (started : Bool) → (last : ℕ) → out.new ≡ with_answer (record { answer = answer; engine = record { logging = logging; fired = fired; truth = truth; started = started; last = last }; counts = counts }) out.old }
-{
-    if out.len() < 32 {
-        return;
-    }
-    out[0] = answer_byte(answer);
-    out[1] = logging_byte(logging);
-    put_number(&mut out[..], 2, 0, 6);
-    put_number(&mut out[..], 8, end_time(logging), 8);
-    put_number(&mut out[..], 16, counts.recorded as u64, 4);
-    put_number(&mut out[..], 20, counts.idle as u64, 4);
-    put_number(&mut out[..], 24, counts.stopped as u64, 4);
-    put_number(&mut out[..], 28, counts.halted as u64, 4);
+    let mut bytes = [0; 32];
+    bytes[0] = answer_byte(answer);
+    bytes[1] = logging_byte(logging);
+    bytes[8..16].copy_from_slice(&end_time(logging).to_le_bytes());
+    bytes[16..20].copy_from_slice(&counts.recorded.to_le_bytes());
+    bytes[20..24].copy_from_slice(&counts.idle.to_le_bytes());
+    bytes[24..28].copy_from_slice(&counts.stopped.to_le_bytes());
+    bytes[28..32].copy_from_slice(&counts.halted.to_le_bytes());
+    bytes
 }

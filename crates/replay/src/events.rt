@@ -1,69 +1,54 @@
-// The frame that an event's bytes stand for.
+// The event that 32 bytes stand for.
 //
-// Promises: `read_frame` reads any bytes, a missing one as 0 (specs/Wire.antt).
-ghost use Rattle.std.specs.Prelude.{◌≡◌, ◌<◌, get_or};
-ghost use Rattle.replay.specs.Wire.{from_bytes, bytes_at, frame_at};
+// Promises: `read_event` reads any bytes (specs/Wire.antt).
+ghost use Rattle.std.specs.Prelude.{◌≡◌};
+ghost use Rattle.replay.specs.Wire.{event_at};
 
-use event_rules::Frame;
+use event_rules::{Event, Frame};
 
-fn wide(b: u8) -> u64
-    ensures { (result ≡ b) × (result < 256) }
+// The event that bytes stand for: numbers low byte first, the last eight bytes are not looked at.
+pub(crate) fn read_event(event: &[u8; 32]) -> Event
+    ensures { result ≡ event_at event.now }
 {
-    b as u64
-}
-
-// A byte; one that is missing counts as 0.
-fn byte(s: &[u8], i: usize) -> u8
-    ensures { result ≡ get_or s.now i 0 }
-{
-    if i < s.len() { s[i] } else { 0 }
-}
-
-// The number that four bytes stand for, low byte first.
-fn number_of_four(s: &[u8], at: usize) -> u64
-    requires { at < 32 }
-    ensures { (result ≡ from_bytes (bytes_at at 4 s.now)) × (result < 4294967296) }
-{
-    let a = wide(byte(s, at));
-    let b = wide(byte(s, at + 1));
-    let c = wide(byte(s, at + 2));
-    let d = wide(byte(s, at + 3));
-    a + 256 * (b + 256 * (c + 256 * d))
-}
-
-fn data_of(s: &[u8]) -> [u8; 8]
-    ensures { result ≡ bytes_at 16 8 s.now }
-{
-    let a = byte(s, 16);
-    let b = byte(s, 17);
-    let c = byte(s, 18);
-    let d = byte(s, 19);
-    let e = byte(s, 20);
-    let f = byte(s, 21);
-    let g = byte(s, 22);
-    let h = byte(s, 23);
-    [a, b, c, d, e, f, g, h]
-}
-
-// The frame that an event's bytes stand for.
-pub(crate) fn read_frame(s: &[u8]) -> Frame
-    ensures { result ≡ frame_at s.now }
-{
-    let flags = byte(s, 1);
-    let channel = byte(s, 2);
-    let dlc = byte(s, 3);
-    let id = number_of_four(s, 4);
-    let low = number_of_four(s, 8);
-    let high = number_of_four(s, 12);
-    let bytes = data_of(s);
-    Frame {
-        channel: channel as u32,
-        time: low + 4294967296 * high,
-        error: flags / 1 % 2 == 1,
+    let [
+        kind,
+        flags,
+        channel,
+        dlc,
+        i0,
+        i1,
+        i2,
+        i3,
+        t0,
+        t1,
+        t2,
+        t3,
+        t4,
+        t5,
+        t6,
+        t7,
+        d0,
+        d1,
+        d2,
+        d3,
+        d4,
+        d5,
+        d6,
+        d7,
+        ..
+    ] = *event;
+    let time = u64::from_le_bytes([t0, t1, t2, t3, t4, t5, t6, t7]);
+    if kind == 0 {
+        return Event::Tick(time);
+    }
+    Event::Frame(Frame {
+        channel: u32::from(channel),
+        time,
+        error: flags % 2 == 1,
         remote: flags / 2 % 2 == 1,
         ext: flags / 4 % 2 == 1,
-        id: id as u32,
-        dlc: dlc as u32,
-        bytes,
-    }
+        id: u32::from_le_bytes([i0, i1, i2, i3]),
+        dlc: u32::from(dlc),
+        bytes: [d0, d1, d2, d3, d4, d5, d6, d7],
+    })
 }

@@ -9,6 +9,8 @@ use mathlib.Core.Bool.{Bool, true, false, ◌&&◌, ◌||◌, true≢false}
 use lib.Dec.{leb, ltb, eqb}
 use lib.ListN.{get_or, drop}
 use borrow.Author.Tests.{le-leb, lt-leb, le-ltb, eqb-true, eqb-false}
+use Rattle.std.specs.Prelude.{Some, None}
+use Rattle.std.proofs.lemmas.Option.{none-some}
 use Rattle.text.specs.Texts.{bytes, same}
 use Rattle.lists.proofs.Cases.{by_cases, le_or_lt}
 use Rattle.lists.proofs.Parts.{neither}
@@ -19,10 +21,10 @@ use Rattle.schema.specs.Schema.{Parent, ◌over◌times◌bars◌, Rule, Element
 use Rattle.schema.specs.Schema.{one_of, parents, parent_in, under, elements, rules_in, rules_of}
 use Rattle.schema.specs.SchemaCode.{names, attributes, kind_count, attribute_count, name_in, kind_name, attribute_name}
 use Rattle.schema.specs.SchemaCode.{position_of, kind_of, attribute_of, is_carried, is_barred, held_in, kind_under}
-use Rattle.schema.specs.SchemaCode.{knows, apart, sort_in, all_rules, sort_of}
-use Rattle.lists.specs.BitsCode.{from, upto}
+use Rattle.schema.specs.SchemaCode.{number_in, attribute_in, knows, apart, sort_in, all_rules, sort_of}
+use Rattle.lists.specs.BitsCode.{from, upto, has_bit, Marks}
 use Rattle.lists.proofs.BitLaws.{everywhere}
-use Rattle.schema.proofs.Tables.{one_back, past_last}
+use Rattle.schema.proofs.Tables.{one_back, some_back, past_last}
 
 -- two functions agree at n if they do at the name of each rule, and n is one of these
 module _ {A : Type 0} (f g : List ℕ → A) (n : List ℕ) where
@@ -251,6 +253,30 @@ module _ (m n : List ℕ) (k : knows (rules_of m) n ≡ true) where
   one_sort =
       ruled (sort_in (rules_of m)) sort_of n (rules_of m)
       (in_every_element (λ rs. map (λ r. sort_in rs (bytes r.name)) rs) (λ rs. map (λ r. sort_of (bytes r.name)) rs) refl m refl) k
+
+-- the attribute n of the kind, where its name has no number, and where it has the number a, and s is the set of those that the kind may have
+module _ (kind : ℕ) (n : List ℕ) where
+  pub none_known : None ≡ number_in attributes n → None ≡ attribute_in kind n
+  unfolding number_in attribute_in
+  none_known e =
+      by_cases (knows (rules_of (kind_name kind)) n) (λ k. absurd (none-some _ (rw (listed (kind_name kind) n k) at e))) (λ k. rw k)
+
+  module _ (a s : ℕ) (marks : Marks attribute_count (λ j. knows (rules_of (kind_name kind)) (attribute_name j)) s) where
+    module _ (e : Some a ≡ number_in attributes n) where
+      mark_is : has_bit s a ≡ knows (rules_of (kind_name kind)) n
+      unfolding attributes
+      mark_is =
+          let b = some_back n attributes a e in
+          everywhere (has_bit s) (λ j. knows (rules_of (kind_name kind)) (attribute_name j)) attribute_count marks a b.1
+          ∙ ap (knows (rules_of (kind_name kind))) b.2
+
+      pub marked : has_bit s a ≡ true → Some a ≡ attribute_in kind n
+      unfolding attribute_in
+      marked t = rw (sym mark_is ∙ t) (ap Some (some_back n attributes a e).0)
+
+      pub unmarked : has_bit s a ≡ false → None ≡ attribute_in kind n
+      unfolding attribute_in
+      unmarked t = rw (sym mark_is ∙ t)
 
 -- ---- no two rules of an element have one name
 pub rules_distinct : (n : List ℕ) → apart (rules_of n) ≡ true

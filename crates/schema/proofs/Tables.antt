@@ -2,22 +2,25 @@
 use Prim.Native.Nat.{ℕ, suc, ◌+◌, ◌*◌, ◌-◌, ◌/◌, ◌%◌, ◌≤◌, ◌<◌}
 use Prim.Native.String.{String}
 use native.Mathlib.Omega.{arith}
-use native.Mathlib.Nat.{zero-mul, mul-le-mul_right}
+use native.Mathlib.Nat.{zero-mul}
 use native.Mathlib.Numerals.{one-add}
 use mathlib.Core.Path.{◌≡◌, refl, sym, ap, ◌∙◌}
 use mathlib.Core.List.{List, [], ◌∷◌, map}
-use mathlib.Core.Bool.{Bool, true, false, cond, ◌&&◌, true≢false}
+use mathlib.Core.Bool.{Bool, true, false, cond, true≢false}
 use mathlib.Core.Logic.{inl, inr}
-use lib.Dec.{eqb, leb}
+use lib.Dec.{eqb, leb, ltb}
 use lib.ListN.{length, get_or, take, drop, get_or-eq_default}
 use types.Run.{OneOf}
-use borrow.Author.Tests.{leb-true, eqb-true}
+use borrow.Author.Tests.{leb-true, ltb-true, eqb-true}
 use Rattle.text.specs.Texts.{bytes, same}
 use Rattle.lists.proofs.Cases.{by_cases, le_or_lt}
 use Rattle.lists.proofs.Parts.{and_left, and_right}
 use Rattle.text.proofs.Equal.{same_self, same_equal}
+use Rattle.std.specs.Prelude.{Some, None}
+use Rattle.std.specs.Option.{unwrap_or}
+use Rattle.std.proofs.lemmas.Option.{none-some}
 use Rattle.schema.specs.Schema.{one_of}
-use Rattle.schema.specs.SchemaCode.{name_in, position_of, in_row, start_of, part, key_of}
+use Rattle.schema.specs.SchemaCode.{Catalogued, name_in, position_of, number_in, in_row, start_of, part, key_of, keyed}
 use Rattle.lists.specs.Lists.{any}
 use Rattle.lists.specs.BitsCode.{upto}
 use Rattle.lists.proofs.BitLaws.{everywhere}
@@ -38,24 +41,17 @@ module _ (n : List ℕ) where
   none_back (x ∷ xs) o =
       by_cases (same n (bytes x)) (λ t. absurd (true≢false (rw t at o))) (λ t. rw (t, one-add) (ap suc (none_back xs (rw t at o))))
 
--- names of which each has a key of its own, so that only one can be meant
-module _ (xs : List String) (m : ℕ) (size : length xs ≡ m) where
-  module _ (n : List ℕ) (k : ℕ) (r : Bool) (e : r ≡ same (name_in xs k) n) where
-    pub met : map (λ j. position_of (name_in xs j) xs) (upto m) ≡ map (λ j. j) (upto m) → k < m → r ≡ true → k ≡ position_of n xs
-    met own h t =
-        sym (everywhere (λ j. position_of (name_in xs j) xs) (λ j. j) m own k h)
-        ∙ ap (λ (s : List ℕ). position_of s xs) (same_equal (name_in xs k) n (sym e ∙ t))
+  -- a name that has a number, and one that has none
+  pub some_back : (xs : List String) (k : ℕ) → Some k ≡ number_in xs n → (k ≡ position_of n xs) × (k < length xs) × (name_in xs k ≡ n)
+  unfolding number_in
+  some_back xs k e =
+      by_cases (one_of xs n)
+      (λ o. let h = one_back xs o in let q : k ≡ position_of n xs = ap (λ r. unwrap_or r 0) (rw o at e) in (q, rw q h.0, rw q h.1))
+      (λ o. absurd (none-some k (sym (rw o at e))))
 
-    pub unmet : (g : List ℕ → ℕ) → map (λ j. g (name_in xs j)) (upto m) ≡ map (λ j. j) (upto m) → k ≡ g n → r ≡ false → m ≡ position_of n xs
-    unmet g own q t =
-        by_cases (one_of xs n)
-        (λ o.
-        let h = one_back n xs o in
-        let j = position_of n xs in
-        let l : j < m = omega (arith, size, h.0) in
-        let w : k ≡ j = q ∙ (ap g (sym h.1) ∙ everywhere (λ j. g (name_in xs j)) (λ j. j) m own j l) in
-        absurd (true≢false (sym (same_self n) ∙ (ap (λ (s : List ℕ). same s n) (sym (ap (name_in xs) w ∙ h.1)) ∙ (sym e ∙ t)))))
-        (λ o. sym (none_back n xs o ∙ size))
+  pub unnumbered : (xs : List String) → None ≡ number_in xs n → position_of n xs ≡ length xs
+  unfolding number_in
+  unnumbered xs e = by_cases (one_of xs n) (λ o. absurd (none-some _ (rw o at e))) (λ o. none_back xs o)
 
 -- ---- keys
 pub key_none : (w : ℕ) (n : List ℕ) → length n ≡ 0 → 0 ≡ key_of w n
@@ -68,26 +64,49 @@ pub key_some : (w : ℕ) (n : List ℕ) (a b c : ℕ) → a ≡ get_or n 0 0 →
 unfolding key_of
 key_some w n a b c x y z = rw (x, y, z)
 
-pub low_product : (a w : ℕ) → a < 256 → w < 64 → a * w < 16384
-low_product a w h g = let l : a * w ≤ 255 * w = mul-le-mul_right w (omega arith) in omega arith
+-- ---- a list of names that a key tells apart
+module _ (xs : List String) (m w : ℕ) (laws : Catalogued xs m w) where
+  module _ (n : List ℕ) (k : ℕ) (r : Bool) (e : r ≡ same (name_in xs k) n) where
+    pub met : k < m → r ≡ true → Some k ≡ number_in xs n
+    unfolding number_in
+    met h t =
+        let q = ap (λ (s : List ℕ). position_of s xs) (sym (same_equal (name_in xs k) n (sym e ∙ t)))
+        ∙ everywhere (λ j. position_of (name_in xs j) xs) (λ j. j) m laws.own k h in
+        by_cases (one_of xs n) (λ o. rw (o, q)) (λ o. absurd (omega (arith, none_back n xs o, laws.size, q)))
 
--- the names in a row: each stands between its start and the next
-module _ (xs : List String) (m k a e : ℕ) (h : k < m) (x : a ≡ start_of xs k) (y : e ≡ start_of xs (k + 1)) where
-  abbrev rises : ℕ → Bool
-  rises j = leb (start_of xs j) (start_of xs (j + 1)) && leb (start_of xs (j + 1)) (length (in_row xs))
+    pub unmet : k ≡ keyed w xs (key_of w n) → r ≡ false → None ≡ number_in xs n
+    unfolding number_in
+    unmet q t =
+        by_cases (one_of xs n)
+        (λ o.
+        let h = one_back n xs o in
+        let j = position_of n xs in
+        let l : j < m = omega (arith, laws.size, h.0) in
+        let g : List ℕ → ℕ = λ s. keyed w xs (key_of w s) in
+        let f : k ≡ j = q ∙ (ap g (sym h.1) ∙ everywhere (λ i. g (name_in xs i)) (λ i. i) m laws.led j l) in
+        absurd (true≢false (sym (same_self n) ∙ (ap (λ (s : List ℕ). same s n) (sym (ap (name_in xs) f ∙ h.1)) ∙ (sym e ∙ t)))))
+        (λ o. rw o)
 
-  pub row_bounds : map rises (upto m) ≡ map (λ j. true) (upto m) → (a ≤ e) × (e ≤ length (in_row xs))
-  row_bounds t =
-      let low = leb (start_of xs k) (start_of xs (k + 1)) in
-      let high = leb (start_of xs (k + 1)) (length (in_row xs)) in
-      let b = everywhere rises (λ j. true) m t k h in
-      rw (x, y) (
-        leb-true (start_of xs k) (start_of xs (k + 1)) (and_left low high b),
-        leb-true (start_of xs (k + 1)) (length (in_row xs)) (and_right low high b),
-      )
+  pub number_fits : m ≤ 64
+  number_fits = leb-true m 64 laws.few
 
-  pub row_part : map (part xs) (upto m) ≡ map (name_in xs) (upto m) → take (e - a) (drop a (in_row xs)) ≡ name_in xs k
-  row_part t = rw (x, y) (everywhere (part xs) (name_in xs) m t k h)
+  pub key_low : (k key : ℕ) → key < 128 → k ≡ keyed w xs key → k < m
+  key_low k key h e = rw e (ltb-true _ _ (everywhere (λ j. ltb (keyed w xs j) m) (λ j. true) 128 laws.low key h))
+
+  -- the names in a row: each stands between its start and the next
+  module _ (k a e : ℕ) (h : k < m) (x : a ≡ start_of xs k) (y : e ≡ start_of xs (k + 1)) where
+    pub row_bounds : (a ≤ e) × (e ≤ length (in_row xs))
+    row_bounds =
+        let low = leb (start_of xs k) (start_of xs (k + 1)) in
+        let high = leb (start_of xs (k + 1)) (length (in_row xs)) in
+        let b = everywhere _ (λ j. true) m laws.rises k h in
+        rw (x, y) (
+          leb-true (start_of xs k) (start_of xs (k + 1)) (and_left low high b),
+          leb-true (start_of xs (k + 1)) (length (in_row xs)) (and_right low high b),
+        )
+
+    pub row_part : take (e - a) (drop a (in_row xs)) ≡ name_in xs k
+    row_part = rw (x, y) (everywhere (part xs) (name_in xs) m laws.parts k h)
 
 -- ---- what a `match` tells of a number, in an arm with the keys ks, and in the arm behind arms with the keys kss, the last first
 abbrev is_in : ℕ → List ℕ → Bool
@@ -132,28 +151,3 @@ module _ {A : Type 0} (xs : List String) (m : ℕ) (size : length xs ≡ m) (f :
   unfolding name_in
   in_rest kss q z e h =
       le_or_lt m e (λ l. past_last xs m size f x z e l) (λ l. rest_below (λ k. f (name_in xs k)) x m kss q e l h)
-
--- ---- a name that stands in the list, and one that does not
-module _ (n : List ℕ) (xs : List String) where
-  pub position_back : position_of n xs < length xs → name_in xs (position_of n xs) ≡ n
-  position_back h = by_cases (one_of xs n) (λ o. (one_back n xs o).1) (λ o. absurd (omega (arith, none_back n xs o)))
-
-  pub position_low : position_of n xs ≤ length xs
-  position_low = by_cases (one_of xs n) (λ o. omega (arith, (one_back n xs o).0)) (λ o. omega (arith, none_back n xs o))
-
--- the number of a name that passes a test
-module _ (xs : List String) (m : ℕ) (size : length xs ≡ m) (p : List ℕ → Bool) (n : List ℕ) (k : ℕ) (e : k ≡ position_of n xs) where
-  pub tested_none : m ≤ k → m ≡ cond (p n) (position_of n xs) m
-  tested_none h =
-      let q : position_of n xs ≡ m = omega (arith, size, e, position_low n xs) in
-      by_cases (p n) (λ t. rw (t, q)) (λ t. rw t)
-
-  module _ (h : k < m) (b : Bool) (r : b ≡ p (name_in xs k)) where
-    test_is : b ≡ p n
-    test_is = r ∙ ap p (ap (name_in xs) e ∙ position_back n xs (omega (arith, e, size)))
-
-    pub tested_in : b ≡ true → k ≡ cond (p n) (position_of n xs) m
-    tested_in t = rw (sym test_is ∙ t) e
-
-    pub tested_out : b ≡ false → m ≡ cond (p n) (position_of n xs) m
-    tested_out t = rw (sym test_is ∙ t)

@@ -1,12 +1,17 @@
 -- Numbers for the elements and the attributes that the tables name, and what the tables say of these numbers: the code's own tables.
 -- Nothing here has to be believed.
-use Rattle.std.specs.Prelude.{ℕ, ◌+◌, ◌*◌, ◌-◌, ◌/◌, ◌%◌, List, [], ◌∷◌, ◌++◌, Bool, true, not, cond, ◌&&◌, ◌||◌, length, get_or, set, replicate, take, drop}
+use Rattle.std.specs.Prelude.{◌≡◌, refl, Option, Some, None, map, leb, ltb, ℕ, ◌+◌, ◌*◌, ◌-◌, ◌/◌, ◌%◌, List, [], ◌∷◌, ◌++◌, Bool, true, not, cond, ◌&&◌, ◌||◌, length, get_or, set, replicate, take, drop}
 use Prim.Native.String.{String}
 use Rattle.text.specs.Texts.{bytes, same}
 use Rattle.values.specs.declared.Sort.{Sort}
 use Rattle.values.specs.declared.Sort.TheVariants.{Unread}
 use Rattle.schema.specs.Schema.{Rule, ElementRules, one_of, parents, under, elements, rules_of}
 use Rattle.lists.specs.Lists.{any}
+use Rattle.lists.specs.BitsCode.{from, upto}
+
+-- names by number
+abbrev pub Names : Type 0
+Names = List String
 
 -- an element's number, its kind, is where its name stands here: 0 is the file
 unfoldable pub names : List String
@@ -47,6 +52,10 @@ unfoldable pub position_of : List ℕ → List String → ℕ
 position_of n [] = 0
 position_of n (x ∷ xs) = cond (same n (bytes x)) 0 (1 + position_of n xs)
 
+-- the number of the name n, if it stands in the list
+unfoldable pub number_in : List String → List ℕ → Option ℕ
+number_in xs n = cond (one_of xs n) (Some (position_of n xs)) None
+
 abbrev pub kind_of : List ℕ → ℕ
 kind_of n = position_of n names
 
@@ -79,9 +88,9 @@ demands rs n = any (λ r. r.required && same n (bytes r.name)) rs
 unfoldable pub is_ruled : List ℕ → Bool
 is_ruled n = any (λ r. true) (rules_of n)
 
--- the number of the attribute n of an element of the kind k
-unfoldable pub attribute_in : ℕ → List ℕ → ℕ
-attribute_in k n = cond (knows (rules_of (kind_name k)) n) (attribute_of n) attribute_count
+-- the number of the attribute n of an element of the kind k, if it may have one of that name
+unfoldable pub attribute_in : ℕ → List ℕ → Option ℕ
+attribute_in k n = cond (knows (rules_of (kind_name k)) n) (Some (attribute_of n)) None
 
 -- what is asked of the value of the attribute n, by rules and in every element that has it
 unfoldable pub sort_in : List Rule → List ℕ → Sort
@@ -123,9 +132,29 @@ keys_from w k (x ∷ xs) t = keys_from w (k + 1) xs (set t (key_of w (bytes x)) 
 abbrev pub keyed : ℕ → List String → ℕ → ℕ
 keyed w xs key = get_or (keys_from w 0 xs (replicate 128 0)) key 0
 
+-- a list of m names that the weight w tells apart: the key of each leads back to it, each key to one of them; and between its start and
+-- the next stands its name
+pub record Catalogued (xs : List String) (m w : ℕ) : Type 0 where
+  pub size : length xs ≡ m
+  pub few : leb m 64 ≡ true
+  pub own : map (λ k. position_of (name_in xs k) xs) (upto m) ≡ map (λ k. k) (upto m)
+  pub led : map (λ k. keyed w xs (key_of w (name_in xs k))) (upto m) ≡ map (λ k. k) (upto m)
+  pub low : map (λ key. ltb (keyed w xs key) m) (upto 128) ≡ map (λ key. true) (upto 128)
+  pub rises : map (λ k. leb (start_of xs k) (start_of xs (k + 1)) && leb (start_of xs (k + 1)) (length (in_row xs))) (upto m)
+      ≡ map (λ k. true) (upto m)
+  pub parts : map (part xs) (upto m) ≡ map (name_in xs) (upto m)
+
 -- the weights by which they all are
 abbrev pub element_weight : ℕ
 element_weight = 11
 
 abbrev pub attribute_weight : ℕ
 attribute_weight = 25
+
+pub elements_catalogued : Catalogued names kind_count element_weight
+unfolding bytes same names name_in position_of key_of keys_from in_row from
+elements_catalogued = record { size = refl; few = refl; own = refl; led = refl; low = refl; rises = refl; parts = refl }
+
+pub attributes_catalogued : Catalogued attributes attribute_count attribute_weight
+unfolding bytes same attributes name_in position_of key_of keys_from in_row from
+attributes_catalogued = record { size = refl; few = refl; own = refl; led = refl; low = refl; rises = refl; parts = refl }

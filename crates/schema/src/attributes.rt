@@ -6,10 +6,12 @@ ghost use Rattle.schema.specs.Schema.{rules_of};
 ghost use Rattle.schema.specs.SchemaCode.{attribute_count, kind_name, attribute_name, knows, demands, is_ruled, attribute_in, sort_of};
 ghost use Rattle.lists.specs.BitsCode.{Marks};
 
+use crate::names::Attributes;
 use crate::{kinds, names};
 use lists::bits;
 use values::Sort;
 
+// Numbers and no enum, for the reason at the elements' numbers.
 pub const LOG_ALL: usize = 0;
 
 pub const FIFO_MODE: usize = 1;
@@ -60,7 +62,7 @@ pub const PRETRIGGER: usize = 23;
 
 pub const POSTTRIGGER: usize = 24;
 
-// None of them.
+// How many there are.
 pub const ATTRIBUTES: usize = 25;
 
 // ---- sets of them
@@ -147,18 +149,15 @@ pub fn is_ruled(kind: usize) -> bool
 }
 
 // The number of the attribute with that name that an element of the kind may have.
-pub fn attribute_in(kind: usize, name: &[u8]) -> usize
+pub fn attribute_in(kind: usize, name: &[u8]) -> Option<usize>
     ensures { result ≡ attribute_in kind name.now }
 {
-    let a = names::attribute_of(name);
-    if ATTRIBUTES <= a {
-        return ATTRIBUTES;
+    let a = names::number_in::<Attributes>(name)?;
+    if bits::has_bit(all_of(kind), a) {
+        Some(a)
+    } else {
+        None
     }
-    let all = all_of(kind);
-    if bits::has_bit(all, a) {
-        return a;
-    }
-    ATTRIBUTES
 }
 
 // ---- the numbers that attributes ask for

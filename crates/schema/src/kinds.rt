@@ -7,10 +7,12 @@ ghost use Rattle.schema.specs.Schema.{one_of, under};
 ghost use Rattle.schema.specs.SchemaCode.{kind_count, kind_name, is_carried, is_barred, held_in, kind_under};
 ghost use Rattle.lists.specs.BitsCode.{Marks};
 
+use crate::names::Elements;
 use crate::{Times, names};
 use lists::bits;
 
-// An element's number is its kind; this one is the file itself.
+// An element's number is its kind; 0 is the file itself. Numbers and no enum: the elements are data, a row of specs/SchemaCode.antt and a row of
+// the tables below, and sets of them are bits (docs/DECISIONS.md, 96 and 97).
 pub const FILE: usize = 0;
 
 pub const KVASER: usize = 1;
@@ -68,7 +70,7 @@ pub const ACTION_EXTERNAL_PULSE: usize = 29;
 
 pub const SIGNAL_PASS: usize = 33;
 
-// None of them.
+// None of them. A number and no Option: it is in no set of kinds, so what asks by a set answers of an element that no parent knows as of any other.
 pub const KINDS: usize = 42;
 
 // ---- what stands in what
@@ -151,26 +153,17 @@ fn is_held(q: usize, k: usize) -> bool
     requires { k < kind_count }
     ensures { result ≡ held_in (kind_name q) (kind_name k) }
 {
-    let carried = carried_in(q);
-    if bits::has_bit(carried, k) {
-        return true;
-    }
-    let barred = barred_in(q);
-    bits::has_bit(barred, k)
+    bits::has_bit(carried_in(q), k) || bits::has_bit(barred_in(q), k)
 }
 
 // The kind of an element with that name in an element of the kind `parent`.
 pub fn kind_under(parent: usize, name: &[u8]) -> usize
     ensures { result ≡ kind_under parent name.now }
 {
-    let k = names::kind_of(name);
-    if KINDS <= k {
+    let Some(k) = names::number_in::<Elements>(name) else {
         return KINDS;
-    }
-    if is_held(parent, k) {
-        return k;
-    }
-    KINDS
+    };
+    if is_held(parent, k) { k } else { KINDS }
 }
 
 // Is an element of the kind carried where it may stand?
@@ -191,11 +184,7 @@ pub fn is_barred(kind: usize) -> bool
 pub fn is_in(parent: usize, kind: usize) -> bool
     ensures { result ≡ one_of (under (kind_name parent)).carried (kind_name kind) }
 {
-    if KINDS <= kind {
-        return false;
-    }
-    let carried = carried_in(parent);
-    bits::has_bit(carried, kind)
+    kind < KINDS && bits::has_bit(carried_in(parent), kind)
 }
 
 // Have elements of two kinds one name? Behind the last kind there is none.
@@ -206,6 +195,7 @@ pub fn is_same(a: usize, b: usize) -> bool
 }
 
 // How many elements an element may hold.
+#[tactic(auto, unfolding(crate::specs::Schema::parents, crate::specs::Schema::parent_in, crate::specs::SchemaCode::names, crate::specs::SchemaCode::name_in, lists::specs::Lists::any, lists::specs::BitsCode::from, text::specs::Texts::bytes, text::specs::Texts::same))]
 pub fn times_of(kind: usize) -> Times
     ensures { result ≡ (under (kind_name kind)).times }
 {

@@ -1,28 +1,131 @@
 // Names to numbers: a key made of a name's length and three of its letters says which name it can be, and that one is compared.
 //
-// Promises: `kind_of` and `attribute_of` answer every name by its place in the lists of specs/SchemaCode.antt.
-ghost use Rattle.std.specs.Prelude.{◌≡◌, ◌≤◌, ◌<◌};
+// Promises: `number_in` answers every name by its place in the lists of specs/SchemaCode.antt.
+ghost use Rattle.std.specs.Prelude.{◌≡◌, ◌≤◌, ◌<◌, ℕ};
 ghost use Rattle.text.specs.Texts.{same};
-ghost use Rattle.schema.specs.SchemaCode.{names, attributes, kind_count, attribute_count, kind_name, attribute_name, kind_of, attribute_of, key_of, keyed, start_of, element_weight, attribute_weight};
+ghost use Rattle.schema.specs.SchemaCode.{names, attributes, kind_count, attribute_count, element_weight, attribute_weight};
+ghost use Rattle.schema.specs.SchemaCode.{Names, Catalogued, elements_catalogued, attributes_catalogued, in_row, start_of, name_in, number_in, key_of, keyed};
 
-use crate::{attributes, kinds};
 use text::texts;
 
-// The names in a row, and the weights that tell them apart. `tools/names` prints these and the tables below from the lists.
-const ELEMENTS: [u8; 557] =
+// A list of names by number, and the tables that find a name in it.
+pub(crate) trait Catalogue {
+    ghost list: { Names };
+
+    ghost count: { ℕ };
+
+    ghost weight: { ℕ };
+
+    // What each `impl` must prove: no other name has a name's key.
+    ghost laws: { Catalogued list count weight };
+
+    // How much a name's last letter counts in its key.
+    fn last_weight() -> usize
+        ensures { (result ≡ weight) × (result < 64) };
+
+    // The names in a row.
+    fn row() -> &'static [u8]
+        ensures { result.now ≡ in_row list };
+
+    // Where the k-th name starts in the row; behind the last, where the row ends.
+    fn start(k: usize) -> usize
+        requires { k ≤ count }
+        ensures { result ≡ start_of list k };
+
+    // The only name that may have the key.
+    fn named_by(key: usize) -> usize
+        requires { key < 128 }
+        ensures { result ≡ keyed weight list key };
+}
+
+// `tools/names` prints the tables of both lists.
+pub(crate) struct Elements {}
+
+static ELEMENT_ROW: [u8; 557] =
     *b"KVASERVERSIONSETTINGSMODECAN_BUSPARAMETERSTRIGGERBLOCKTRIGGERSTRIGGER_MSG_IDTRIGGER_MSG_DLCTRIGGER_MSG_ERROR_FRAMETRIGGER_STARTUPSTATEMENTSSTATEMENTEXPRESSIONACTIONSACTION_START_LOGACTION_STOP_LOGACTION_STOP_LOG_COMPLETELYFILTERSMESSAGE_PASSMESSAGE_STOPCHANNELPARAMETERS_FDTRIGGER_SIGVALTRIGGER_EXTERNALTRIGGER_TIMERTRIGGER_DISK_FULLACTION_EXTERNAL_PULSEEXTERNAL_PULSEACTION_ACTIVATE_AUTO_TRANSMIT_LISTACTION_DEACTIVATE_AUTO_TRANSMIT_LISTSIGNAL_PASSSIGNAL_STOPFLAG_PASSFLAG_STOPFLAGS_PASSFLAGS_STOPMESSAGE_COUNTING_PASSSIGNAL_COUNTING_PASSFLAG_COUNTING_PASS";
 
-const ELEMENT_WEIGHT: usize = 11;
+static ELEMENT_STARTS: [usize; 43] = [
+    0, 0, 6, 13, 21, 25, 32, 42, 54, 62, 76, 91, 114, 129, 139, 148, 158, 165, 181, 196, 222, 229,
+    241, 253, 260, 273, 287, 303, 316, 333, 354, 368, 402, 438, 449, 460, 469, 478, 488, 498, 519,
+    539, 557,
+];
 
-const ATTRIBUTES: [u8; 174] =
+static ELEMENT_KEYS: [u8; 128] = [
+    0, 0, 40, 0, 0, 0, 11, 39, 0, 0, 0, 0, 0, 0, 0, 7, 0, 0, 0, 0, 0, 0, 0, 0, 4, 0, 15, 0, 0, 26,
+    0, 2, 28, 0, 0, 0, 0, 0, 0, 0, 0, 0, 0, 0, 0, 0, 32, 25, 0, 0, 22, 0, 0, 0, 0, 16, 0, 36, 31,
+    34, 1, 38, 0, 0, 30, 0, 0, 0, 24, 0, 0, 20, 0, 0, 0, 19, 8, 3, 6, 5, 10, 29, 0, 21, 0, 0, 0, 9,
+    14, 13, 35, 0, 33, 18, 37, 12, 27, 0, 17, 0, 0, 0, 0, 0, 0, 0, 0, 0, 0, 0, 0, 0, 0, 23, 0, 41,
+    0, 0, 0, 0, 0, 0, 0, 0, 0, 0, 0, 0,
+];
+
+impl Catalogue for Elements {
+    ghost list = { names };
+
+    ghost count = { kind_count };
+
+    ghost weight = { element_weight };
+
+    ghost laws = { elements_catalogued };
+
+    fn last_weight() -> usize {
+        11
+    }
+
+    fn row() -> &'static [u8] {
+        &ELEMENT_ROW
+    }
+
+    fn start(k: usize) -> usize {
+        ELEMENT_STARTS[k]
+    }
+
+    fn named_by(key: usize) -> usize {
+        usize::from(ELEMENT_KEYS[key])
+    }
+}
+
+pub(crate) struct Attributes {}
+
+static ATTRIBUTE_ROW: [u8; 174] =
     *b"log_allfifo_modechannelbitratetseg1tseg2sjwsilentbitrate_brstseg1_brstseg2_brssjw_brsisonametimeoutmsgidmsgid_mincan_extcan_fdprotocolmsg_fielddlcdlc_minpretriggerposttrigger";
 
-const ATTRIBUTE_WEIGHT: usize = 25;
+static ATTRIBUTE_STARTS: [usize; 26] = [
+    0, 7, 16, 23, 30, 35, 40, 43, 49, 60, 69, 78, 85, 88, 92, 99, 104, 113, 120, 126, 134, 143,
+    146, 153, 163, 174,
+];
 
-fn wide(b: u8) -> usize
-    ensures { (result ≡ b) × (result < 256) }
-{
-    b as usize
+static ATTRIBUTE_KEYS: [u8; 128] = [
+    0, 0, 0, 0, 9, 10, 0, 21, 6, 0, 0, 19, 0, 0, 0, 0, 0, 0, 0, 0, 0, 0, 0, 0, 0, 0, 0, 0, 0, 22,
+    18, 0, 0, 0, 0, 23, 0, 0, 0, 0, 0, 11, 0, 0, 15, 0, 0, 0, 24, 0, 17, 16, 0, 0, 4, 0, 0, 0, 0,
+    20, 0, 8, 0, 12, 0, 0, 0, 0, 7, 0, 1, 0, 13, 14, 0, 0, 0, 3, 0, 5, 0, 0, 0, 0, 0, 0, 0, 0, 0,
+    0, 0, 0, 0, 0, 0, 0, 0, 0, 0, 0, 0, 0, 0, 0, 0, 0, 0, 0, 0, 0, 0, 0, 0, 0, 0, 0, 0, 0, 0, 0, 0,
+    2, 0, 0, 0, 0, 0, 0,
+];
+
+impl Catalogue for Attributes {
+    ghost list = { attributes };
+
+    ghost count = { attribute_count };
+
+    ghost weight = { attribute_weight };
+
+    ghost laws = { attributes_catalogued };
+
+    fn last_weight() -> usize {
+        25
+    }
+
+    fn row() -> &'static [u8] {
+        &ATTRIBUTE_ROW
+    }
+
+    fn start(k: usize) -> usize {
+        ATTRIBUTE_STARTS[k]
+    }
+
+    fn named_by(key: usize) -> usize {
+        usize::from(ATTRIBUTE_KEYS[key])
+    }
 }
 
 // A number by which names are told apart, if the last letter has a good weight.
@@ -34,220 +137,28 @@ fn key_of(name: &[u8], weight: usize) -> usize
     if n == 0 {
         return 0;
     }
-    let first = wide(name[0]);
-    let last = wide(name[n - 1]);
-    let middle = wide(name[n / 2]);
+    let first = usize::from(name[0]);
+    let last = usize::from(name[n - 1]);
+    let middle = usize::from(name[n / 2]);
     (n % 128 * 4 + first + last * weight + middle) % 128
 }
 
-// Where the k-th name starts.
-fn element_start(k: usize) -> usize
-    requires { k ≤ kind_count }
-    ensures { result ≡ start_of names k }
+// Is that the name with the number k?
+fn is_named<C: Catalogue>(k: usize, name: &[u8]) -> bool
+    requires { k < C.count }
+    ensures { result ≡ same (name_in C.list k) name.now }
 {
-    match k {
-        0 => 0,
-        1 => 0,
-        2 => 6,
-        3 => 13,
-        4 => 21,
-        5 => 25,
-        6 => 32,
-        7 => 42,
-        8 => 54,
-        9 => 62,
-        10 => 76,
-        11 => 91,
-        12 => 114,
-        13 => 129,
-        14 => 139,
-        15 => 148,
-        16 => 158,
-        17 => 165,
-        18 => 181,
-        19 => 196,
-        20 => 222,
-        21 => 229,
-        22 => 241,
-        23 => 253,
-        24 => 260,
-        25 => 273,
-        26 => 287,
-        27 => 303,
-        28 => 316,
-        29 => 333,
-        30 => 354,
-        31 => 368,
-        32 => 402,
-        33 => 438,
-        34 => 449,
-        35 => 460,
-        36 => 469,
-        37 => 478,
-        38 => 488,
-        39 => 498,
-        40 => 519,
-        41 => 539,
-        _ => 557,
+    texts::same_text(&C::row()[C::start(k)..C::start(k + 1)], name)
+}
+
+// The number of the name in the list, if it stands there.
+pub(crate) fn number_in<C: Catalogue>(name: &[u8]) -> Option<usize>
+    ensures { result ≡ number_in C.list name.now }
+{
+    let k = C::named_by(key_of(name, C::last_weight()));
+    if is_named::<C>(k, name) {
+        Some(k)
+    } else {
+        None
     }
-}
-
-// The only element whose name may have the key.
-fn kind_by(key: usize) -> usize
-    requires { key < 128 }
-    ensures { (result ≡ keyed element_weight names key) × (result < kind_count) }
-{
-    match key {
-        2 => 40,
-        6 => 11,
-        7 => 39,
-        15 => 7,
-        24 => 4,
-        26 => 15,
-        29 => 26,
-        31 => 2,
-        32 => 28,
-        46 => 32,
-        47 => 25,
-        50 => 22,
-        55 => 16,
-        57 => 36,
-        58 => 31,
-        59 => 34,
-        60 => 1,
-        61 => 38,
-        64 => 30,
-        68 => 24,
-        71 => 20,
-        75 => 19,
-        76 => 8,
-        77 => 3,
-        78 => 6,
-        79 => 5,
-        80 => 10,
-        81 => 29,
-        83 => 21,
-        87 => 9,
-        88 => 14,
-        89 => 13,
-        90 => 35,
-        92 => 33,
-        93 => 18,
-        94 => 37,
-        95 => 12,
-        96 => 27,
-        98 => 17,
-        113 => 23,
-        115 => 41,
-        _ => 0,
-    }
-}
-
-fn is_kind(k: usize, name: &[u8]) -> bool
-    requires { k < kind_count }
-    ensures { result ≡ same (kind_name k) name.now }
-{
-    let a = element_start(k);
-    let e = element_start(k + 1);
-    texts::same_text(&ELEMENTS[a..e], name)
-}
-
-// The kind of the elements with that name.
-pub(crate) fn kind_of(name: &[u8]) -> usize
-    ensures { result ≡ kind_of name.now }
-{
-    let key = key_of(name, ELEMENT_WEIGHT);
-    let k = kind_by(key);
-    if is_kind(k, name) {
-        return k;
-    }
-    kinds::KINDS
-}
-
-fn attribute_start(k: usize) -> usize
-    requires { k ≤ attribute_count }
-    ensures { result ≡ start_of attributes k }
-{
-    match k {
-        0 => 0,
-        1 => 7,
-        2 => 16,
-        3 => 23,
-        4 => 30,
-        5 => 35,
-        6 => 40,
-        7 => 43,
-        8 => 49,
-        9 => 60,
-        10 => 69,
-        11 => 78,
-        12 => 85,
-        13 => 88,
-        14 => 92,
-        15 => 99,
-        16 => 104,
-        17 => 113,
-        18 => 120,
-        19 => 126,
-        20 => 134,
-        21 => 143,
-        22 => 146,
-        23 => 153,
-        24 => 163,
-        _ => 174,
-    }
-}
-
-fn attribute_by(key: usize) -> usize
-    requires { key < 128 }
-    ensures { (result ≡ keyed attribute_weight attributes key) × (result < attribute_count) }
-{
-    match key {
-        4 => 9,
-        5 => 10,
-        7 => 21,
-        8 => 6,
-        11 => 19,
-        29 => 22,
-        30 => 18,
-        35 => 23,
-        41 => 11,
-        44 => 15,
-        48 => 24,
-        50 => 17,
-        51 => 16,
-        54 => 4,
-        59 => 20,
-        61 => 8,
-        63 => 12,
-        68 => 7,
-        70 => 1,
-        72 => 13,
-        73 => 14,
-        77 => 3,
-        79 => 5,
-        121 => 2,
-        _ => 0,
-    }
-}
-
-fn is_attribute(k: usize, name: &[u8]) -> bool
-    requires { k < attribute_count }
-    ensures { result ≡ same (attribute_name k) name.now }
-{
-    let a = attribute_start(k);
-    let e = attribute_start(k + 1);
-    texts::same_text(&ATTRIBUTES[a..e], name)
-}
-
-// The number of the attributes with that name.
-pub(crate) fn attribute_of(name: &[u8]) -> usize
-    ensures { result ≡ attribute_of name.now }
-{
-    let key = key_of(name, ATTRIBUTE_WEIGHT);
-    let a = attribute_by(key);
-    if is_attribute(a, name) {
-        return a;
-    }
-    attributes::ATTRIBUTES
 }

@@ -7,33 +7,32 @@ use mathlib.Core.Bool.{Bool, true, false}
 use lib.ListN.{length, get_or, drop}
 use lib.Dec.{eqb}
 use borrow.Author.Tests.{ne_eqb, eqb-true}
-use Rattle.shape.specs.declared.Step.{Step}
 use Rattle.text.specs.Kinds.{is_blank, is_start, is_decl}
 use Rattle.text.specs.SpansCode.{span_at}
 use Rattle.lists.proofs.Cases.{by_cases, le_or_lt}
 use Rattle.text.proofs.Spans.{low_of, stop_of}
-use Rattle.shape.specs.MachineCode.{start, start_lt, decl, mark, mark_x, mark_xm, declared, closing as closing_decl, before, after, idle, lt, comment, bang, tag, name, bad, at}
+use Rattle.shape.specs.MachineCode.{Step, start, start_lt, decl, mark, mark_x, mark_xm, declared, closing as closing_decl, before, after, idle, lt, comment, bang, tag, name, bad, at}
 use Rattle.shape.specs.ReadsCode.{Reads, Expects, single, outer}
 use Rattle.shape.proofs.Bytes.{kind_not, blank_60, start_33, decl_63}
 use Rattle.shape.proofs.Run.{at_step, at_dead, at_end, at_same, run_of}
 use Rattle.shape.proofs.Steps.{reads_behind, reads_byte, reads_only}
 
-module _ (s : List ℕ) (i : ℕ) (r : Step) where
+module _ {s : List ℕ} {i : ℕ} {r : Step} where
   pub decl_x : Expects 120 s i r → Reads (single (decl mark)) (single (decl mark_x)) s i r
-  decl_x = reads_only (single (decl mark)) (single (decl mark_x)) s i r (λ u. refl) (λ u a e. rw (ne_eqb _ _ e)) (λ u. refl)
+  decl_x x = reads_only (single (decl mark)) (single (decl mark_x)) s i r (λ u. refl) (λ u a e. rw (ne_eqb _ _ e)) (λ u. refl) x
 
   pub decl_m : Expects 109 s i r → Reads (single (decl mark_x)) (single (decl mark_xm)) s i r
-  decl_m = reads_only (single (decl mark_x)) (single (decl mark_xm)) s i r (λ u. refl) (λ u a e. rw (ne_eqb _ _ e)) (λ u. refl)
+  decl_m x = reads_only (single (decl mark_x)) (single (decl mark_xm)) s i r (λ u. refl) (λ u a e. rw (ne_eqb _ _ e)) (λ u. refl) x
 
   pub decl_l : Expects 108 s i r → Reads (single (decl mark_xm)) (single (decl declared)) s i r
-  decl_l = reads_only (single (decl mark_xm)) (single (decl declared)) s i r (λ u. refl) (λ u a e. rw (ne_eqb _ _ e)) (λ u. refl)
+  decl_l x = reads_only (single (decl mark_xm)) (single (decl declared)) s i r (λ u. refl) (λ u a e. rw (ne_eqb _ _ e)) (λ u. refl) x
 
   pub decl_gt : Expects 62 s i r → Reads (single (decl closing_decl)) (single (idle before)) s i r
-  decl_gt = reads_only (single (decl closing_decl)) (single (idle before)) s i r (λ u. refl) (λ u a e. rw (ne_eqb _ _ e)) (λ u. refl)
+  decl_gt x = reads_only (single (decl closing_decl)) (single (idle before)) s i r (λ u. refl) (λ u a e. rw (ne_eqb _ _ e)) (λ u. refl) x
 
-pub decl_text : (s : List ℕ) (i j : ℕ) (r : Step) → j ≡ span_at is_decl (drop i s) i → Expects 63 s j r
+pub decl_text : {s : List ℕ} {i j : ℕ} {r : Step} → j ≡ span_at is_decl (drop i s) i → Expects 63 s j r
     → Reads (single (decl declared)) (single (decl closing_decl)) s i r
-decl_text s i j r e x =
+decl_text {s} {i} {j} {r} e x =
     reads_behind s i j r (low_of is_decl s i j e)
     (λ a. run_of is_decl s i j e (decl declared) (λ b t. rw t))
     (reads_byte (single (decl declared)) (single (decl closing_decl)) is_decl s j r (stop_of is_decl s i j e) (λ a. rw decl_63)

@@ -5,8 +5,9 @@ use mathlib.Core.Path.{◌≡◌, refl, ap, ◌∙◌, subst}
 use mathlib.Core.List.{List, ◌++◌, append_assoc}
 use lib.ListN.{take, drop}
 use lib.Seq.{take-add}
-use Rattle.shape.specs.declared.Shape.{Shape}
-use Rattle.shape.specs.declared.Shape.TheVariants.{Whole, TooLong, Broken}
+use Rattle.std.specs.Prelude.{Ok, Err}
+use Rattle.shape.specs.Shape.{Shape}
+use Rattle.shape.specs.declared.Unshaped.TheVariants.{TooLong, Broken}
 use Rattle.lists.proofs.Cases.{le_or_lt}
 use Rattle.shape.specs.Shape.{WellShaped, Viable, Longest, Shaped}
 
@@ -32,12 +33,12 @@ one_place s p q x y =
     le_or_lt p q (λ h. le_or_lt q p (λ g. omega arith) (λ g. absurd (least s p q x y g))) (λ h. absurd (least s q p y x h))
 
 pub one_answer : (s : List ℕ) (r r' : Shape) → Shaped s r → Shaped s r' → r ≡ r'
-one_answer s Whole Whole x y = refl
-one_answer s Whole TooLong x y = absurd (omega arith)
-one_answer s Whole (Broken q) (l, (d, w)) y = absurd (y.1.0 d w)
-one_answer s TooLong Whole x y = absurd (omega arith)
-one_answer s TooLong TooLong x y = refl
-one_answer s TooLong (Broken q) x y = absurd (omega arith)
-one_answer s (Broken p) Whole x (l, (d, w)) = absurd (x.1.0 d w)
-one_answer s (Broken p) TooLong x y = absurd (omega arith)
-one_answer s (Broken p) (Broken q) x y = ap Broken (one_place s p q x.1.1 y.1.1)
+one_answer s (Ok u) (Ok v) x y = refl
+one_answer s (Ok u) (Err TooLong) x y = absurd (omega arith)
+one_answer s (Ok u) (Err (Broken q)) (l, (d, w)) y = absurd (y.1.0 d w)
+one_answer s (Err TooLong) (Ok u) x y = absurd (omega arith)
+one_answer s (Err TooLong) (Err TooLong) x y = refl
+one_answer s (Err TooLong) (Err (Broken q)) x y = absurd (omega arith)
+one_answer s (Err (Broken p)) (Ok u) x (l, (d, w)) = absurd (x.1.0 d w)
+one_answer s (Err (Broken p)) (Err TooLong) x y = absurd (omega arith)
+one_answer s (Err (Broken p)) (Err (Broken q)) x y = ap (λ (n : ℕ). Err (Broken n)) (one_place s p q x.1.1 y.1.1)

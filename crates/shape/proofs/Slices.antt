@@ -5,7 +5,7 @@ use native.Mathlib.Numerals.{add-one}
 use mathlib.Core.Path.{◌≡◌, sym, ap, ◌∙◌}
 use mathlib.Core.List.{List, [], ◌∷◌, ◌++◌}
 use lib.ListN.{length, get_or, take, drop, length-take, drop_of_length-le}
-use lib.Seq.{slice, slice-cons, take-add, take-suc, take_all, drop_at, drop-append-le, length-take-le}
+use lib.Seq.{slice, slice-cons, take-add, take-suc, drop_at, drop-append-le, length-take-le}
 
 pub slice_take : (f : List ℕ) (i m : ℕ) → i ≤ length f → slice i (i + m) f ≡ take m (drop i f)
 slice_take f i m h = ap (drop i) (take-add i m f) ∙ drop_at (take i f) (take m (drop i f)) i (length-take-le i f h)
@@ -26,6 +26,3 @@ pub slice_snoc : (f : List ℕ) (i k : ℕ) → i ≤ k → k < length f → sli
 slice_snoc f i k h l =
     ap (λ (n : ℕ). slice i n f) (add-one k) ∙ ap (drop i) (take-suc f k 0 l)
     ∙ drop-append-le i (take k f) (get_or f k 0 ∷ []) (omega (arith, length-take-le k f (omega arith)))
-
-pub slice_rest : (f : List ℕ) (i : ℕ) → slice i (length f) f ≡ drop i f
-slice_rest f i = ap (drop i) (take_all (length f) f (omega arith))

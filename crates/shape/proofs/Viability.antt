@@ -6,7 +6,11 @@ use native.Mathlib.Numerals.{add-one}
 use mathlib.Core.Path.{◌≡◌, refl, sym, ap, ◌∙◌, subst}
 use mathlib.Core.List.{List, [], ◌∷◌, ◌++◌}
 use lib.ListN.{length, take}
-use Rattle.shape.specs.declared.Shape.{Shape}
+use Rattle.std.specs.Prelude.{Err, IsErrAnd}
+use Rattle.std.proofs.lemmas.Result.{err_from_is_err_and}
+use Rattle.shape.specs.declared.Stop.{Stop as Stopped}
+use Rattle.shape.specs.declared.Unshaped.TheVariants.{Broken}
+use Rattle.shape.specs.Shape.{Shape}
 use Rattle.text.specs.Texts.{◌▹◌}
 use Rattle.text.specs.Kinds.{is_blank, is_start, is_digit, is_name, is_value, is_text, is_decl}
 use Rattle.shape.specs.MachineCode.{State, Next, live, dead, step_byte, start, start_lt, decl, DeclPart, mark, mark_x, mark_xm, declared, closing, idle, lt, tag, slash, close, close_gap, comment, Zone, before, inside, after, zone_of, TagState, name, gap, attr, attr_gap, equal, value, valued, ComPart, bang, dash, text, text_dash, text_end, Out, whole, bad, run_from, end}
@@ -247,3 +251,8 @@ answer s l (bad p) x = let e : x.0
 -- the same, of an answer that is the machine's
 pub by_run : (s : List ℕ) (r : Shape) → length s ≤ 32768 → r ≡ as_shape (run_from start s 0) → Shaped s r
 by_run s r l e = subst (Shaped s) (sym e) (answer s l (run_from start s 0) (ends s start 0))
+
+-- the same, where a reader stopped
+pub by_stop : (s : List ℕ) (r : Shape) {e : Stopped} → length s ≤ 32768 → run_from start s 0 ≡ bad e.0 → IsErrAnd r (λ y. y ≡ Broken e.0)
+    → Shaped s r
+by_stop s r l g h = let p = err_from_is_err_and r h in by_run s r l (p.1 ∙ ap Err p.2 ∙ sym (ap as_shape g))

@@ -1,8 +1,7 @@
 -- A byte machine: what may stand next, given what was read. A proof device, which need not be believed: the contracts of the functions that
 -- `read_shape` calls and the proofs use it; proofs/Complete.antt and proofs/Sound.antt show that it takes exactly the texts of Shape.antt.
-use Rattle.std.specs.Prelude.{ℕ, ◌+◌, List, [], ◌∷◌, ◌++◌, Bool, true, false, ◌&&◌, ltb, eqb, length, drop}
-use Rattle.shape.specs.declared.Step.{Step}
-use Rattle.shape.specs.declared.Step.TheVariants.{At, Bad}
+use Rattle.std.specs.Prelude.{ℕ, ◌+◌, List, [], ◌∷◌, ◌++◌, Bool, true, false, ◌&&◌, ltb, eqb, length, drop, Result, Ok, Err}
+use Rattle.shape.specs.declared.Stop.{Stop}
 use Rattle.text.specs.Kinds.{among, is_blank, is_start, is_name, is_value, is_any, is_text, is_decl}
 
 -- where markup stands: before the root, in an element (its name, and the names around it, innermost first), behind the root
@@ -151,7 +150,11 @@ run_from q (b ∷ s) i = elim (step_byte q b) [ live q' ↦ run_from q' s (i + 1
 abbrev pub at : State → List ℕ → ℕ → Out
 at q s i = run_from q (drop i s) i
 
--- what comes of s where a reader came to offset j in state q, or found that only the first p bytes can stand
+-- where a reader came to, or how many bytes can stand
+abbrev pub Step : Type 0
+Step = Result ℕ Stop
+
+-- what comes of s where a reader came to offset j in state q, or found that only the first e.0 bytes can stand
 abbrev pub goes : State → List ℕ → Step → Out
-goes q s (At j) = at q s j
-goes q s (Bad p) = bad p
+goes q s (Ok j) = at q s j
+goes q s (Err e) = bad e.0

@@ -1,24 +1,22 @@
 -- What the contracts of the functions that `read_shape` calls say, in terms of MachineCode.antt: the text read from state q at offset i
 -- goes
 -- on as from state q' where the reader came to. Proof devices, which need not be believed.
-use Rattle.std.specs.Prelude.{ℕ, ◌+◌, ◌≤◌, ◌<◌, ◌≡◌, List, [], ◌∷◌, Bool, true, false, length, get_or}
-use Rattle.shape.specs.declared.Step.{Step}
-use Rattle.shape.specs.declared.Step.TheVariants.{At, Bad}
+use Rattle.std.specs.Prelude.{ℕ, ◌+◌, ◌≤◌, ◌<◌, ◌≡◌, List, [], ◌∷◌, Bool, true, false, length, get_or, Result, Ok, Err, IfOk}
+use Rattle.shape.specs.declared.Stop.{Stop}
 use Rattle.shape.specs.declared.Tag.{Tag}
-use Rattle.shape.specs.declared.Tag.TheVariants.{Open, Empty, Fault}
+use Rattle.shape.specs.declared.Tag.TheVariants.{Open, Empty}
 use Rattle.shape.specs.declared.Mark.{Mark}
-use Rattle.shape.specs.declared.Mark.TheVariants.{Again, Close, Child, Stop}
+use Rattle.shape.specs.declared.Mark.TheVariants.{Again, Close, Child}
 use Rattle.shape.specs.declared.Outer.{Outer}
-use Rattle.shape.specs.declared.Outer.TheVariants.{End, Lt, Halt}
-use Rattle.shape.specs.declared.Shape.{Shape}
-use Rattle.shape.specs.declared.Shape.TheVariants.{Whole, Broken}
+use Rattle.shape.specs.declared.Outer.TheVariants.{End, Lt}
+use Rattle.shape.specs.Shape.{Shape}
+use Rattle.shape.specs.declared.Unshaped.TheVariants.{Broken}
 use Rattle.text.specs.Kinds.{among, is_blank, is_start}
-use Rattle.shape.specs.MachineCode.{TagState, tag, name, valued, lt, idle, close, inside, zone_of, State, live, dead, Out, whole, bad, Zone, before, after, step_byte, end, at, goes}
+use Rattle.shape.specs.MachineCode.{Step, TagState, tag, name, valued, lt, idle, close, inside, zone_of, State, live, dead, Out, whole, bad, Zone, before, after, step_byte, end, at, goes}
 
 -- the reader went on, and not past the end
 abbrev pub WentOn : List ℕ → ℕ → Step → Type 0
-WentOn s i (At j) = (i < j) × (j ≤ length s)
-WentOn s i (Bad p) = Unit {0}
+WentOn s i r = IfOk r (λ j. (i < j) × (j ≤ length s))
 
 -- q and q' are states that a family X of surroundings (names, zones) gives
 pub record Reads {X : Type 0} (q q' : X → State) (s : List ℕ) (i : ℕ) (r : Step) : Type 0 where
@@ -44,28 +42,31 @@ tagged p x = tag p x.0 x.1
 
 -- the reader stands where no attribute and no blank follows
 abbrev pub Stands : List ℕ → ℕ → Step → Type 0
-Stands s i (At j) = (i ≤ j) × (j < length s → is_blank (get_or s j 0) ≡ false)
-Stands s i (Bad p) = Unit {0}
+Stands s i r = IfOk r (λ j. (i ≤ j) × (j < length s → is_blank (get_or s j 0) ≡ false))
 
 pub record ReadsAttributes (s : List ℕ) (i : ℕ) (r : Step) : Type 0 where
   pub run : (x : Around) → at (tagged valued x) s i ≡ goes (tagged valued x) s r
   pub stands : Stands s i r
 
-abbrev pub goes_tag : Around → List ℕ → Tag → Out
-goes_tag x s (Open j) = at (idle (inside x.1 x.0)) s j
-goes_tag x s (Empty j) = at (idle (zone_of x.0)) s j
-goes_tag x s (Fault p) = bad p
+-- where a start tag ends, or how many bytes can stand
+abbrev pub TagStep : Type 0
+TagStep = Result Tag Stop
 
-abbrev pub PastTag : List ℕ → ℕ → Tag → Type 0
-PastTag s i (Open j) = (i < j) × (j ≤ length s)
-PastTag s i (Empty j) = (i < j) × (j ≤ length s)
-PastTag s i (Fault p) = Unit {0}
+abbrev pub goes_tag : Around → List ℕ → TagStep → Out
+goes_tag x s (Ok (Open j)) = at (idle (inside x.1 x.0)) s j
+goes_tag x s (Ok (Empty j)) = at (idle (zone_of x.0)) s j
+goes_tag x s (Err e) = bad e.0
 
-pub record TagEnd (s : List ℕ) (i : ℕ) (r : Tag) : Type 0 where
+abbrev pub PastTag : List ℕ → ℕ → TagStep → Type 0
+PastTag s i (Ok (Open j)) = (i < j) × (j ≤ length s)
+PastTag s i (Ok (Empty j)) = (i < j) × (j ≤ length s)
+PastTag s i (Err e) = Unit {0}
+
+pub record TagEnd (s : List ℕ) (i : ℕ) (r : TagStep) : Type 0 where
   pub run : (i < length s → is_blank (get_or s i 0) ≡ false) → (x : Around) → at (tagged valued x) s i ≡ goes_tag x s r
   pub past : PastTag s i r
 
-pub record TagRest (s : List ℕ) (i : ℕ) (r : Tag) : Type 0 where
+pub record TagRest (s : List ℕ) (i : ℕ) (r : TagStep) : Type 0 where
   pub run : (x : Around) → at (tagged valued x) s i ≡ goes_tag x s r
   pub past : PastTag s i r
 
@@ -77,8 +78,7 @@ abbrev pub behind : List (List ℕ) → State
 behind k = idle (zone_of k)
 
 abbrev pub From : ℕ → Step → Type 0
-From i (At j) = i ≤ j
-From i (Bad p) = Unit {0}
+From i r = IfOk r (λ j. i ≤ j)
 
 pub record SameName (n s : List ℕ) (i : ℕ) (r : Step) : Type 0 where
   pub run : (k : List (List ℕ)) → at (closing_tag n k) s i ≡ goes (closing_tag [] k) s r
@@ -91,19 +91,23 @@ in_text x = idle (inside x.1 x.0)
 abbrev pub in_lt : Around → State
 in_lt x = lt (inside x.1 x.0)
 
-abbrev pub goes_mark : Around → List ℕ → Mark → Out
-goes_mark x s (Again j) = at (in_text x) s j
-goes_mark x s (Close j) = at (close x.0 x.1) s j
-goes_mark x s (Child j) = at (in_lt x) s j
-goes_mark x s (Stop p) = bad p
+-- what stands next, or how many bytes can stand
+abbrev pub MarkStep : Type 0
+MarkStep = Result Mark Stop
 
-abbrev pub PastMark : List ℕ → ℕ → Mark → Type 0
-PastMark s i (Again j) = (i < j) × (j ≤ length s)
-PastMark s i (Close j) = (i < j) × (j ≤ length s)
-PastMark s i (Child j) = (i ≤ j) × (j < length s) × (is_start (get_or s j 0) ≡ true)
-PastMark s i (Stop p) = Unit {0}
+abbrev pub goes_mark : Around → List ℕ → MarkStep → Out
+goes_mark x s (Ok (Again j)) = at (in_text x) s j
+goes_mark x s (Ok (Close j)) = at (close x.0 x.1) s j
+goes_mark x s (Ok (Child j)) = at (in_lt x) s j
+goes_mark x s (Err e) = bad e.0
 
-pub record Marks (q : Around → State) (s : List ℕ) (i : ℕ) (r : Mark) : Type 0 where
+abbrev pub PastMark : List ℕ → ℕ → MarkStep → Type 0
+PastMark s i (Ok (Again j)) = (i < j) × (j ≤ length s)
+PastMark s i (Ok (Close j)) = (i < j) × (j ≤ length s)
+PastMark s i (Ok (Child j)) = (i ≤ j) × (j < length s) × (is_start (get_or s j 0) ≡ true)
+PastMark s i (Err e) = Unit {0}
+
+pub record Marks (q : Around → State) (s : List ℕ) (i : ℕ) (r : MarkStep) : Type 0 where
   pub run : (x : Around) → at (q x) s i ≡ goes_mark x s r
   pub past : PastMark s i r
 
@@ -121,21 +125,30 @@ abbrev pub outer : Bool → Zone
 outer true = before
 outer false = after
 
-abbrev pub goes_outer : Bool → List ℕ → Outer → Out
-goes_outer b s (End j) = at (idle (outer b)) s j
-goes_outer b s (Lt j) = at (lt (outer b)) s j
-goes_outer b s (Halt p) = bad p
+-- what stands outside the root, or how many bytes can stand
+abbrev pub OuterStep : Type 0
+OuterStep = Result Outer Stop
 
-abbrev pub FoundOuter : List ℕ → Outer → Type 0
-FoundOuter s (End j) = length s ≤ j
-FoundOuter s (Lt j) = j < length s → among "!" (get_or s j 0) ≡ false
-FoundOuter s (Halt p) = Unit {0}
+abbrev pub goes_outer : Bool → List ℕ → OuterStep → Out
+goes_outer b s (Ok (End j)) = at (idle (outer b)) s j
+goes_outer b s (Ok (Lt j)) = at (lt (outer b)) s j
+goes_outer b s (Err e) = bad e.0
 
-pub record Outside (s : List ℕ) (i : ℕ) (r : Outer) : Type 0 where
+abbrev pub FoundOuter : List ℕ → OuterStep → Type 0
+FoundOuter s (Ok (End j)) = length s ≤ j
+FoundOuter s (Ok (Lt j)) = j < length s → among "!" (get_or s j 0) ≡ false
+FoundOuter s (Err e) = Unit {0}
+
+pub record Outside (s : List ℕ) (i : ℕ) (r : OuterStep) : Type 0 where
   pub run : (b : Bool) → at (idle (outer b)) s i ≡ goes_outer b s r
   pub found : FoundOuter s r
 
+-- what comes of a file that was read to its end, or of which so many bytes can stand
+abbrev pub out_of : Result (Unit {0}) Stop → Out
+out_of (Ok u) = whole
+out_of (Err e) = bad e.0
+
 -- the answer of the whole reader
 abbrev pub as_shape : Out → Shape
-as_shape whole = Whole
-as_shape (bad p) = Broken p
+as_shape whole = Ok tt
+as_shape (bad p) = Err (Broken p)

@@ -1,9 +1,9 @@
 -- Paper 01, "Shape of the file": the grammar, and the tree that a file spells.
 -- A rule `X s r` says: the text s is an X with the text r behind it. What is read stands before them, as the name n in `Name n s r`.
-use Rattle.std.specs.Prelude.{ℕ, zero, suc, ◌+◌, ◌-◌, ◌≤◌, ◌<◌, ◌≡◌, List, [], ◌∷◌, ◌++◌, Bool, true, false, length, take}
+use Rattle.std.specs.Prelude.{ℕ, zero, suc, ◌+◌, ◌-◌, ◌≤◌, ◌<◌, ◌≡◌, List, [], ◌∷◌, ◌++◌, Bool, true, false, length, take, Result, Ok, Err}
 use Rattle.std.proofs.Math.Option.{Option, some}
-use Rattle.shape.specs.declared.Shape.{Shape}
-use Rattle.shape.specs.declared.Shape.TheVariants.{Whole, TooLong, Broken}
+use Rattle.shape.specs.declared.Unshaped.{Unshaped}
+use Rattle.shape.specs.declared.Unshaped.TheVariants.{TooLong, Broken}
 use Rattle.text.specs.Texts.{◌▹◌}
 use Rattle.text.specs.Kinds.{among, is_blank, is_start, is_name, is_decl, is_value, is_any, is_text}
 
@@ -144,13 +144,17 @@ pub record Longest (s : List ℕ) (p : ℕ) : Type 0 where
   pub viable : Viable (take p s)
   pub longest : p < length s → Viable (take (p + 1) s) → ⊥
 
+-- the answer: well shaped, or why not
+abbrev pub Shape : Type 0
+Shape = Result (Unit {0}) Unshaped
+
 -- what the answer says of a file: 1 "file too long" ("At most 32,768 bytes."), 2 "shape", or neither
 abbrev pub Shaped : List ℕ → Shape → Type 0
-Shaped s TooLong = 32768 < length s
-Shaped s (Broken p) = (length s ≤ 32768) × (((x : Node) → WellShaped s x → ⊥) × Longest s p)
-Shaped s Whole = (length s ≤ 32768) × ((x : Node) × WellShaped s x)
+Shaped s (Err TooLong) = 32768 < length s
+Shaped s (Err (Broken p)) = (length s ≤ 32768) × (((x : Node) → WellShaped s x → ⊥) × Longest s p)
+Shaped s (Ok u) = (length s ≤ 32768) × ((x : Node) × WellShaped s x)
 
 abbrev pub shape_refusal : Shape → Option (ℕ × ℕ)
-shape_refusal TooLong = some (1, 32768)
-shape_refusal (Broken p) = some (2, p)
-shape_refusal Whole = Option.none
+shape_refusal (Err TooLong) = some (1, 32768)
+shape_refusal (Err (Broken p)) = some (2, p)
+shape_refusal (Ok u) = Option.none

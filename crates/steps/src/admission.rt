@@ -2,9 +2,9 @@
 //
 // Promises: `refuse` is a refused call, the others give the refusals 21 to 24 in their order.
 ghost use Rattle.std.specs.Prelude.{◌≡◌};
-ghost use Rattle.event_rules.specs.Calls.{late, out_of_range, full, frame_refusal, refused};
+ghost use Rattle.event_rules.specs.Calls.{late, out_of_range, full, frame_refusal, refusal_from, refused};
 
-use event_rules::{Answer, Counts, Engine, Frame, Outcome};
+use event_rules::{Answer, Counts, Engine, Event, Frame, Outcome, Refusal};
 use records::{DLC_TOP, sizes};
 
 // A time before the last accepted one, or too far away.
@@ -24,34 +24,46 @@ fn is_out_of_range(f: Frame) -> bool
 fn is_full(k: Counts) -> bool
     ensures { result ≡ full k }
 {
-    4294967295 <= (k.recorded as u64) + (k.idle as u64) + (k.stopped as u64) + (k.halted as u64)
+    4294967295
+        <= u64::from(k.recorded) + u64::from(k.idle) + u64::from(k.stopped) + u64::from(k.halted)
 }
 
-// The paper's number for a refused frame, 21 to 24 in their order, or 0.
-pub fn refusal_of_frame(channels: u32, last: u64, k: Counts, f: Frame) -> u32
+// The refusal of a frame, if any: 21 to 24 in their order.
+pub fn refusal_of_frame(channels: u32, last: u64, k: Counts, f: Frame) -> Option<Refusal>
     ensures { result ≡ frame_refusal channels last k f }
 {
     if channels <= f.channel {
-        return 21;
+        return Some(Refusal::NoChannel);
     }
     if is_late(last, f.time) {
-        return 22;
+        return Some(Refusal::BadTime);
     }
     if is_out_of_range(f) {
-        return 23;
+        return Some(Refusal::OutOfRange);
     }
     if is_full(k) {
-        return 24;
+        return Some(Refusal::CountsFull);
     }
-    0
+    None
+}
+
+// The refusal of an event, if any; of a tick 22 alone.
+pub fn refusal_of(channels: u32, last: u64, k: Counts, e: Event) -> Option<Refusal>
+    ensures { result ≡ refusal_from channels last k e }
+{
+    match e {
+        Event::Frame(f) => refusal_of_frame(channels, last, k, f),
+        Event::Tick(u) if is_late(last, u) => Some(Refusal::BadTime),
+        Event::Tick(_) => None,
+    }
 }
 
 // A refused event changes nothing.
-pub fn refuse(n: u32, en: Engine, k: Counts) -> Outcome
-    ensures { result ≡ refused n en k }
+pub fn refuse(refusal: Refusal, en: Engine, k: Counts) -> Outcome
+    ensures { result ≡ refused refusal en k }
 {
     Outcome {
-        answer: Answer::Refused(n),
+        answer: Answer::Refused(refusal),
         engine: en,
         counts: k,
     }

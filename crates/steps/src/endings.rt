@@ -7,13 +7,7 @@ use event_rules::{Answer, Logging};
 pub fn is_halted(l: Logging) -> bool
     ensures { result ≡ is_halted l }
 {
-    match l {
-        Logging::Off => false,
-        Logging::On => false,
-        Logging::Ending(_) => false,
-        Logging::EndingCompletely(_) => false,
-        Logging::Halted => true,
-    }
+    matches!(l, Logging::Halted)
 }
 
 // An ending whose time has come is over, at that very microsecond.
@@ -21,21 +15,9 @@ pub fn ended_by(l: Logging, u: u64) -> Logging
     ensures { result ≡ ended_by u l }
 {
     match l {
-        Logging::Off => Logging::Off,
-        Logging::On => Logging::On,
-        Logging::Ending(e) => if e <= u {
-            Logging::Off
-        } else {
-            Logging::Ending(e)
-        },
-        Logging::EndingCompletely(e) => {
-            if e <= u {
-                Logging::Halted
-            } else {
-                Logging::EndingCompletely(e)
-            }
-        }
-        Logging::Halted => Logging::Halted,
+        Logging::Ending(e) if e <= u => Logging::Off,
+        Logging::EndingCompletely(e) if e <= u => Logging::Halted,
+        other => other,
     }
 }
 
@@ -43,10 +25,7 @@ pub fn recorded_or_idle(l: Logging) -> Answer
     ensures { result ≡ recorded_or_idle l }
 {
     match l {
-        Logging::Off => Answer::Idle,
-        Logging::On => Answer::Recorded,
-        Logging::Ending(_) => Answer::Recorded,
-        Logging::EndingCompletely(_) => Answer::Recorded,
-        Logging::Halted => Answer::Idle,
+        Logging::On | Logging::Ending(_) | Logging::EndingCompletely(_) => Answer::Recorded,
+        Logging::Off | Logging::Halted => Answer::Idle,
     }
 }

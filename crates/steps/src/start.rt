@@ -2,15 +2,14 @@
 ghost use Rattle.std.specs.Prelude.{◌≡◌};
 ghost use Rattle.event_rules.specs.Calls.{fresh, no_counts};
 
-use event_rules::{Counts, Engine, Firing, Logging};
+use event_rules::{Counts, Engine, Logging};
 
 pub fn fresh_engine() -> Engine
     ensures { result ≡ fresh }
 {
-    let never = Firing { ever: false, at: 0 };
     Engine {
         logging: Logging::Off,
-        fired: [never; 32],
+        fired: [None; 32],
         truth: [false; 16],
         started: false,
         last: 0,

@@ -2,7 +2,6 @@
 ghost use Rattle.std.specs.Prelude.{◌≡◌, ◌+◌, ◌*◌, ltb};
 ghost use Rattle.event_rules.specs.Rules.{lasts};
 
-use event_rules::Firing;
 use records::Timeout;
 
 // Whether u is before t + 1000 x timeout.
@@ -12,18 +11,16 @@ fn before_end(u: u64, t: u64, timeout: u32) -> bool
     if u < t {
         return true;
     }
-    u - t < 1000 * (timeout as u64)
+    u - t < 1000 * u64::from(timeout)
 }
 
 // Whether a trigger is still true at u from its last firing.
-pub fn trigger_lasts(timeout: Timeout, l: Firing, u: u64) -> bool
-    ensures { result ≡ lasts u l timeout }
+pub fn trigger_lasts(timeout: Timeout, last: Option<u64>, u: u64) -> bool
+    ensures { result ≡ lasts u last timeout }
 {
-    match timeout {
-        Timeout::Forever => l.ever,
-        Timeout::Ms(ms) => {
-            let open = before_end(u, l.at, ms);
-            l.ever & open
-        }
+    match (last, timeout) {
+        (None, _) => false,
+        (Some(_), Timeout::Forever) => true,
+        (Some(t), Timeout::Ms(ms)) => before_end(u, t, ms),
     }
 }

@@ -18,8 +18,9 @@ use Rattle.tables.specs.RowsCode.{folded, no_names, tell_name, no_head, tell_hea
 use Rattle.file_rules.specs.declared.Refusal.{Refusal}
 use Rattle.file_rules.specs.Tables as Tables
 use Rattle.file_rules.specs.Tables.{kept, is_in, used_names, gap, channel_named, channels_in, table_faults}
-use Rattle.tables.specs.TablesCode.{used_from, name_fault, first_where, bus_fault, is_beyond, channel_fault, or_else, table_fault}
-use Rattle.file_rules.specs.RefusalCode.{refused_at}
+use Rattle.tables.specs.TablesCode.{used_from, name_fault, first_where, bus_fault, is_beyond, channel_fault, table_fault}
+use Rattle.std.specs.Prelude.{Option, None}
+use Rattle.std.specs.Option.{option_or}
 use Rattle.tables.proofs.Wanted.{Fit, first_of}
 use Rattle.tables.proofs.Readings.{read, trigger_ruled, number_is}
 use Rattle.tables.proofs.Nested.{all_mapped}
@@ -29,7 +30,7 @@ use Rattle.lists.specs.FlagsCode.{lacks_first}
 
 -- ---- 9: a name that was used earlier, or else what the rest says
 used_law : (rest : List Fault) (earlier : List (List ℕ)) (ms : List Known)
-    → first_of (used_names earlier ms ++ rest) ≡ or_else (used_from earlier (map Tables.name_of ms) (map (λ k. k.place) ms)) (first_of rest)
+    → first_of (used_names earlier ms ++ rest) ≡ option_or (used_from earlier (map Tables.name_of ms) (map (λ k. k.place) ms)) (first_of rest)
 unfolding used_names used_from
 used_law rest earlier [] = refl
 used_law rest earlier (k ∷ ms) =
@@ -37,12 +38,12 @@ used_law rest earlier (k ∷ ms) =
 
 -- ---- 10: the first for which a test holds, or else what the rest says
 first_law : (p : Entry → Bool) (b : Known → Bool) (rest : List Fault) (ks : List Known) → All (λ k. p (entry_of k) ≡ b k) ks
-    → first_of (gathered (λ k. 10 at k.place if b k) ks ++ rest) ≡ or_else (first_where p (map entry_of ks)) (first_of rest)
+    → first_of (gathered (λ k. 10 at k.place if b k) ks ++ rest) ≡ option_or (first_where p (map entry_of ks)) (first_of rest)
 unfolding gathered first_where
 first_law p b rest [] y = refl
 first_law p b rest (k ∷ ks) y = by_cases (b k) (λ t. rw (y.0, t) refl) (λ t. rw (y.0, t) (first_law p b rest ks y.1))
 
-or_none : (p : Entry → Bool) (es : List Entry) → or_else (first_where p es) (refused_at 0 0) ≡ first_where p es
+or_none : (p : Entry → Bool) (es : List Entry) → option_or (first_where p es) None ≡ first_where p es
 unfolding first_where
 or_none p [] = refl
 or_none p (e ∷ es) = by_cases (p e) (λ t. rw t refl) (λ t. rw t (or_none p es))
@@ -99,13 +100,13 @@ module _ (f : List ℕ) (n : ℕ) (k : Known) (y : Fit f k) where
 module _ (f : List ℕ) (ks : List Known) (y : All (Fit f) ks) where
   name_law : length (kept (is_in "TRIGGERS") ks) ≤ 32 → (rest : List Fault)
       → first_of (used_names [] (kept (is_in "TRIGGERS") ks) ++ rest)
-      ≡ or_else (name_fault f (folded (tell_name f) no_names (map entry_of ks))) (first_of rest)
+      ≡ option_or (name_fault f (folded (tell_name f) no_names (map entry_of ks))) (first_of rest)
   unfolding name_fault
   name_law h rest =
       let ms = kept (is_in "TRIGGERS") ks in
       let u : used_from [] (map Tables.name_of ms) (map (λ k. k.place) ms)
       ≡ name_fault f (folded (tell_name f) no_names (map entry_of ks)) = rw (names_law f ks y h, places_law f ks y h) refl in
-      used_law rest [] ms ∙ ap (λ (r : Refusal). or_else r (first_of rest)) u
+      used_law rest [] ms ∙ ap (λ (r : Option Refusal). option_or r (first_of rest)) u
 
   module _ (h : length (kept (is "PARAMETERS") ks) ≤ 5) where
     abbrev head : Head
@@ -119,7 +120,7 @@ module _ (f : List ℕ) (ks : List Known) (y : All (Fit f) ks) where
 
     bus_by : (g : Bool) (rest : List Fault)
         → first_of (gathered (λ k. 10 at k.place if g) (kept (is "CAN_BUS") ks) ++ rest)
-        ≡ or_else (cond g (first_where (λ e. element.is_kind e.kind "CAN_BUS") (map entry_of ks)) (refused_at 0 0)) (first_of rest)
+        ≡ option_or (cond g (first_where (λ e. element.is_kind e.kind "CAN_BUS") (map entry_of ks)) None) (first_of rest)
     bus_by false rest = rw (gathered_none (kept (is "CAN_BUS") ks)) refl
     bus_by true rest =
         rw (gathered_kept (is "CAN_BUS") ks)
@@ -129,7 +130,7 @@ module _ (f : List ℕ) (ks : List Known) (y : All (Fit f) ks) where
 
     bus_law : (rest : List Fault)
         → first_of (gathered (λ k. 10 at k.place if gap (length (channels_in ks)) (channels_in ks)) (kept (is "CAN_BUS") ks) ++ rest)
-        ≡ or_else (bus_fault head (map entry_of ks)) (first_of rest)
+        ≡ option_or (bus_fault head (map entry_of ks)) (first_of rest)
     unfolding bus_fault
     bus_law rest =
         let g : lacks_first head.channels head.present
@@ -155,5 +156,5 @@ fault_law f ks y t h =
     let bs = gathered (λ k. 10 at k.place if gap (length (channels_in ks)) (channels_in ks)) (kept (is "CAN_BUS") ks) in
     let cs = gathered (λ k. 10 at k.place if any (leb (length (channels_in ks))) (channel_named k)) ks in
     sym
-    (name_law f ks y t (bs ++ cs) ∙ ap (or_else (name_fault f (folded (tell_name f) no_names (map entry_of ks))))
-    (bus_law f ks y h cs ∙ ap (or_else (bus_fault (folded tell_head no_head (map entry_of ks)) (map entry_of ks))) (channels_law f ks y h)))
+    (name_law f ks y t (bs ++ cs) ∙ ap (option_or (name_fault f (folded (tell_name f) no_names (map entry_of ks))))
+    (bus_law f ks y h cs ∙ ap (option_or (bus_fault (folded tell_head no_head (map entry_of ks)) (map entry_of ks))) (channels_law f ks y h)))

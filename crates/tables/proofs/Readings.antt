@@ -14,8 +14,7 @@ use Rattle.lists.proofs.Cases.{by_cases}
 use Rattle.lists.proofs.Parts.{and_right}
 use Rattle.text.specs.Texts.{bytes, same}
 use Rattle.text.proofs.Equal.{same_equal}
-use Rattle.values.specs.declared.Number.{Number}
-use Rattle.values.specs.declared.Number.TheVariants.{Value, Nothing}
+use Rattle.std.specs.Prelude.{Option, Some, None}
 use Rattle.values.specs.declared.Sort.{Sort}
 use Rattle.values.specs.declared.Sort.TheVariants.{Timeout}
 use Rattle.values.specs.Values.{ranged, worth_of}
@@ -38,9 +37,9 @@ use Rattle.tables.specs.RowsCode.{cause_from, trigger_from, filter_from}
 use Rattle.tables.proofs.Wanted.{Fit}
 
 -- no value is above its range
-pub ranged_top : (lo hi most : ℕ) (n : Number) → good_of (ranged lo hi most n) ≤ hi
-ranged_top lo hi most Nothing = omega arith
-ranged_top lo hi most (Value v) =
+pub ranged_top : (lo hi most : ℕ) (n : Option ℕ) → good_of (ranged lo hi most n) ≤ hi
+ranged_top lo hi most None = omega arith
+ranged_top lo hi most (Some v) =
     by_cases (leb lo v && leb v hi)
     (λ t. by_cases (leb v most) (λ s. rw (t, s) (leb-true v hi (and_right (leb lo v) (leb v hi) t))) (λ s. rw (t, s) (omega arith)))
     (λ t. rw t (omega arith))

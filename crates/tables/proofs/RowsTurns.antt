@@ -1,21 +1,24 @@
 -- The entries by their offsets: what stands in one, and a loop over them, for any table: what the rest of them adds to the table so far is
 -- the whole.
-use Prim.Native.Nat.{ℕ, zero, suc, ◌+◌, ◌-◌, ◌≤◌, ◌<◌}
+use Prim.Native.Nat.{ℕ, zero, suc, ◌+◌, ◌≤◌, ◌<◌}
 use native.Mathlib.Omega.{arith}
 use mathlib.Core.Path.{◌≡◌, refl, sym, ap, ◌∙◌}
 use mathlib.Core.List.{List, [], ◌∷◌}
 use mathlib.Core.Bool.{Bool, true, false, cond}
-use lib.ListN.{length, get_or, take, drop, length-take, length-drop, drop_of_length-le, get_or-eq_default}
-use lib.Seq.{get_or-take, get_or-drop, drop-drop}
-use mir.Syntax.{w64}
-use mir.Val.{Fits}
-use borrow.Author.Rules.{Fits-under}
-use borrow.Author.Tests.{lt-ltb}
+use lib.ListN.{length, get_or, take, drop, length-take, length-drop, get_or-eq_default}
+use lib.Seq.{get_or-take, get_or-drop}
 use Rattle.lists.proofs.Cases.{by_cases}
 use Rattle.schema.specs.Schema.{one_of, under}
 use Rattle.schema.specs.SchemaCode.{kind_name, is_ruled}
 use Rattle.document.specs.EntriesCode.{Entry, row_width, row_size, entry_from, entries_from, entries_in}
-use Rattle.tables.specs.RowsCode.{folded, entry_at, next_at, front, counted}
+use Rattle.std.specs.Prelude.{Some, None, unwrap_or}
+use Rattle.std.specs.List.{filter}
+use Rattle.std.specs.Iterator.{MakesProgress, item_count}
+use Rattle.std.proofs.lemmas.Iterator.{YieldsList}
+use Rattle.std.proofs.lemmas.Iterator.Consumers.{YieldsList-from_shown}
+use Rattle.tables.specs.declared.cells.Entry.{Entry as Cells}
+use Rattle.tables.specs.declared.cells.Entries.{Entries}
+use Rattle.tables.specs.RowsCode.{folded, shown, left, Takes, front, counted}
 
 -- ---- an entry's row
 module _ (vs : List ℕ) (kind j : ℕ) (own : kind ≡ (entry_from vs).kind) where
@@ -42,6 +45,10 @@ row_past vs j h =
     let n = row_size (get_or vs 0 0) in
     sym (get_or-eq_default (take n (drop 3 vs)) 0 (omega (arith, h, row_short (get_or vs 0 0), length-take n (drop 3 vs))))
 
+pub given_or : {X : Type 0} (b : Bool) (v d : X) → unwrap_or (cond b (Some v) None) d ≡ cond b v d
+given_or true v d = refl
+given_or false v d = refl
+
 -- ---- the entry at the front, and those behind it
 fuel : (n m : ℕ) (ws : List ℕ) → length ws ≤ n → length ws ≤ m → entries_from n ws ≡ entries_from m ws
 unfolding entries_from
@@ -65,46 +72,42 @@ entries_front (w ∷ ws) h =
     let l = fuel (length ws) (length (drop k ws)) (drop k ws) (omega (arith, length-drop k ws)) (omega arith) in
     rw q (ap (λ (es : List Entry). entry_from (w ∷ ws) ∷ es) l)
 
-module _ (ws : List ℕ) (at : ℕ) where
-  abbrev pub Next : ℕ → Type 0
-  Next n = n ≡ next_at ws at
+pub entries_none : (vs : List ℕ) → length vs ≡ 0 → entries_in vs ≡ []
+unfolding entries_from
+entries_none [] h = refl
+entries_none (v ∷ vs) h = absurd (omega (arith, h))
 
-  further : (n : ℕ) → at < length ws → Next n → n ≡ at + (row_size (entry_at ws at).kind + 3)
-  further n h q = q ∙ rw (lt-ltb at (length ws) h)
+-- an entry has a word at least
+few : (n : ℕ) (ws : List ℕ) → length (entries_from n ws) ≤ length ws
+unfolding entries_from
+few zero ws = omega arith
+few (suc n) [] = omega arith
+few (suc n) (w ∷ ws) = let k = row_size w + 2 in omega (arith, few n (drop k ws), length-drop k ws)
 
-  pub entries_next : (n : ℕ) → at < length ws → Next n → entries_in (drop at ws) ≡ entry_at ws at ∷ entries_in (drop n ws)
-  entries_next n h q =
-      let k = row_size (entry_at ws at).kind + 3 in
-      entries_front (drop at ws) (omega (arith, h, length-drop at ws))
-      ∙ ap (λ (l : List ℕ). entry_at ws at ∷ entries_in l) (drop-drop k at ws ∙ ap (λ (i : ℕ). drop i ws) (sym (further n h q)))
+pub entries_few : (ws : List ℕ) → length (entries_in ws) ≤ length ws
+entries_few ws = few (length ws) ws
 
-  pub entries_over : length ws ≤ at → entries_in (drop at ws) ≡ []
-  unfolding entries_from
-  entries_over h = rw (drop_of_length-le ws h)
+-- one was taken of those that are left
+pub went_on : (s t : Entries) (x : Cells) → left s ≡ shown x ∷ left t → MakesProgress (λ u. Unit {0}) (item_count left) s (Some x) t
+went_on s t x e = let l = ap length e in record { on = λ f. (tt, tt, omega (arith, l)); keeps = tt; rests = λ f. tt }
 
-  pub less : (n : ℕ) → at < length ws → Next n → length ws - n < length ws - at
-  less n h q = omega (arith, h, further n h q)
-
-pub one_more_fits : (i : ℕ) → i < 32 → Fits w64 (i + 1)
-one_more_fits i h = Fits-under w64 (i + 1) 33 (omega arith) tt
+pub left_is : (s : Entries) → YieldsList Takes shown s (left s)
+left_is s = YieldsList-from_shown Takes shown left (λ u v h. ap length h.0) (λ u x v h. h.0) s
 
 -- ---- the front of the entries: those up to the first whose kind is of another sort
-module _ (p : ℕ → Bool) (ws : List ℕ) (at : ℕ) where
-  abbrev pub front_at : List Entry
-  front_at = front p (entries_in (drop at ws))
-
-  module _ (h : at < length ws) {kind : ℕ} (own : kind ≡ (entry_at ws at).kind) where
-    pub front_next : (n : ℕ) → p kind ≡ true → Next ws at n → front_at ≡ entry_at ws at ∷ front p (entries_in (drop n ws))
+module _ (p : ℕ → Bool) {es : List Entry} where
+  module _ {e : Entry} {rest : List Entry} (s : es ≡ e ∷ rest) {kind : ℕ} (own : kind ≡ e.kind) where
+    pub front_next : p kind ≡ true → front p es ≡ e ∷ front p rest
     unfolding front
-    front_next n k q = rw (entries_next ws at n h q, ← own, k)
+    front_next k = rw (s, ← own, k)
 
-    pub front_stop : p kind ≡ false → front_at ≡ []
+    pub front_stop : p kind ≡ false → front p es ≡ []
     unfolding front
-    front_stop k = rw (entries_next ws at _ h refl, ← own, k)
+    front_stop k = rw (s, ← own, k)
 
-  pub front_over : length ws ≤ at → front_at ≡ []
+  pub front_over : es ≡ [] → front p es ≡ []
   unfolding front
-  front_over h = rw (entries_over ws at h)
+  front_over s = rw s
 
 -- ---- the loop: what the entries that are left add to t is the whole
 module _ {A : Type 0} (step : A → Entry → A) {all t : A} {es : List Entry} where
@@ -116,39 +119,23 @@ module _ {A : Type 0} (step : A → Entry → A) {all t : A} {es : List Entry} w
   unfolding folded
   told_all s c = sym (ap (folded step t) s) ∙ c
 
--- all of them are told, and t₀ is what they add to
-module _ {A : Type 0} (step : A → Entry → A) (ws : List ℕ) (t₀ : A) where
-  abbrev pub Turn : A → ℕ → Type 0
-  Turn t at = folded step t (entries_in (drop at ws)) ≡ folded step t₀ (entries_in ws)
+-- ---- those of kinds that stand in the kind q
+abbrev pub stands_in : ℕ → Entry → Bool
+stands_in q e = one_of (under (kind_name q)).carried (kind_name e.kind)
 
-  pub turn_none : (t : A) → t ≡ t₀ → Turn t 0
-  turn_none t e = ap (λ (x : A). folded step x (entries_in ws)) e
+counted_is : (q : ℕ) (es : List Entry) → length (filter (stands_in q) es) ≡ counted q es
+unfolding counted
+counted_is q [] = refl
+counted_is q (e ∷ es) =
+    by_cases (stands_in q e) (λ t. let h = counted_is q es in rw t (omega (arith, h))) (λ t. rw t (counted_is q es))
 
-  pub turn_more : (t u : A) (at n : ℕ) → Turn t at → at < length ws → Next ws at n → u ≡ step t (entry_at ws at) → Turn u n
-  turn_more t u at n c h q e = told_more step (entries_next ws at n h q) c e
+fewer : (q : ℕ) (es : List Entry) → length (filter (stands_in q) es) ≤ length es
+fewer q [] = omega arith
+fewer q (e ∷ es) = let h = fewer q es in by_cases (stands_in q e) (λ t. rw t (omega (arith, h))) (λ t. rw t (omega (arith, h)))
 
-  pub turn_all : (t : A) (at : ℕ) → Turn t at → length ws ≤ at → t ≡ folded step t₀ (entries_in ws)
-  turn_all t at c h = told_all step (entries_over ws at h) c
+pub filter_few : (q : ℕ) (ws : List ℕ) → length (filter (stands_in q) (entries_in ws)) ≤ length ws
+filter_few q ws = omega (arith, fewer q (entries_in ws), entries_few ws)
 
--- ---- n of those before an offset stand in the kind q; each has a word at least
-module _ (q : ℕ) (ws : List ℕ) where
-  abbrev pub Counting : ℕ → ℕ → Type 0
-  Counting n at = (n + counted q (entries_in (drop at ws)) ≡ counted q (entries_in ws)) × (n ≤ at) × (n ≤ length ws)
-
-  module _ (n at : ℕ) (c : Counting n at) where
-    module _ (m : ℕ) (h : at < length ws) (s : Next ws at m) {kind : ℕ} (own : kind ≡ (entry_at ws at).kind) where
-      counted_next : (b : Bool) → one_of (under (kind_name q)).carried (kind_name kind) ≡ b
-          → counted q (entries_in (drop at ws)) ≡ cond b (1 + counted q (entries_in (drop m ws))) (counted q (entries_in (drop m ws)))
-      unfolding counted
-      counted_next b k = rw (entries_next ws at m h s, ← own, k)
-
-      pub counting_more : one_of (under (kind_name q)).carried (kind_name kind) ≡ true → Counting (n + 1) m
-      counting_more k =
-          (omega (arith, counted_next true k, c.0), omega (arith, further ws at m h s, c.1), omega (arith, h, c.1))
-
-      pub counting_same : one_of (under (kind_name q)).carried (kind_name kind) ≡ false → Counting n m
-      counting_same k = (omega (arith, counted_next false k, c.0), omega (arith, further ws at m h s, c.1), c.2)
-
-    pub counting_all : length ws ≤ at → (n ≡ counted q (entries_in ws)) × (n ≤ length ws)
-    unfolding counted
-    counting_all h = (omega (arith, ap (counted q) (entries_over ws at h), c.0), c.2)
+pub counting : (q n : ℕ) (ws : List ℕ) → n ≡ length (filter (stands_in q) (entries_in ws))
+    → (n ≡ counted q (entries_in ws)) × (n ≤ length ws)
+counting q n ws e = (e ∙ counted_is q (entries_in ws), omega (arith, e, filter_few q ws))

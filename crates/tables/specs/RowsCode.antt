@@ -1,6 +1,6 @@
 -- What the functions answer, for every input: what one entry says, with those behind it, and what all of them say together. Code-shaped;
 -- proofs/ ties it to the definitions. Nothing here has to be believed.
-use Rattle.std.specs.Prelude.{ℕ, ◌+◌, List, [], ◌∷◌, Bool, true, false, cond, ◌||◌, ltb, eqb, length, set, drop, replicate}
+use Rattle.std.specs.Prelude.{ℕ, ◌+◌, ◌≡◌, Option, MatchOption, List, [], ◌∷◌, Bool, true, false, cond, ◌||◌, ltb, eqb, set, drop, replicate}
 use Prim.Native.String.{String}
 use Rattle.text.specs.Texts.{bytes}
 use Rattle.lists.specs.BitsCode.{with_bit}
@@ -16,7 +16,9 @@ use Rattle.walk.specs.declared.Part.{Part}
 use Rattle.schema.specs.Schema.{one_of, under}
 use Rattle.schema.specs.SchemaCode.{kind_name}
 use Rattle.element.specs.ElementCode.{is_kind, value_at}
-use Rattle.document.specs.EntriesCode.{Entry, flag_in, number_in, row_size, entry_from}
+use Rattle.document.specs.EntriesCode.{Entry, flag_in, number_in, row_size, entry_from, entries_in}
+use Rattle.tables.specs.declared.cells.Entry.{Entry as Cells}
+use Rattle.tables.specs.declared.cells.Entries.{Entries}
 use Rattle.tables.specs.declared.rows.Names.{Names}
 use Rattle.tables.specs.declared.rows.Head.{Head}
 use Rattle.tables.specs.declared.rows.Told.{Told}
@@ -25,12 +27,23 @@ unfoldable pub folded : {A : Type 0} → (A → Entry → A) → A → List Entr
 folded step a [] = a
 folded step a (e ∷ es) = folded step (step a e) es
 
--- the entry at an offset, and where the one behind it stands
-abbrev pub entry_at : List ℕ → ℕ → Entry
-entry_at ws at = entry_from (drop at ws)
+-- the entry that words show, those behind it, and those that are left
+abbrev pub shown : Cells → Entry
+shown x = entry_from x.words.now
 
-abbrev pub next_at : List ℕ → ℕ → ℕ
-next_at ws at = cond (ltb at (length ws)) (at + (row_size (entry_at ws at).kind + 3)) at
+abbrev pub words_behind : Cells → List ℕ
+words_behind x = drop (row_size (shown x).kind + 3) x.words.now
+
+abbrev pub behind : Cells → List Entry
+behind x = entries_in (words_behind x)
+
+abbrev pub left : Entries → List Entry
+left s = entries_in s.words.now
+
+-- a call of `next` from s gives r and leaves t: the words with the first entry and those behind it, or none
+abbrev pub Takes : Entries → Option Cells → Entries → Type 0
+Takes s r t = MatchOption r ((left s ≡ []) × (t.words.now ≡ s.words.now))
+    (λ x. (left s ≡ shown x ∷ left t) × (x.words.now ≡ s.words.now) × (t.words.now ≡ words_behind x))
 
 -- a kind that the parent n carries
 abbrev pub is_under : String → ℕ → Bool

@@ -1,23 +1,57 @@
 // What the known elements of a file say: the triggers' names, channels, log_all; and one entry, with those behind it.
 //
-// Promises: each answers any file, words and offset, by value, as specs/RowsCode.antt gives it.
-ghost use Rattle.std.specs.Prelude.{◌≤◌, ◌+◌, ◌≡◌, cond, ltb, length, drop};
-ghost use Rattle.records.specs.Records.{dlc_top};
+// Promises: each answers any file, words and entry, by value, as specs/RowsCode.antt gives it.
+ghost use Rattle.std.specs.Prelude.{◌≤◌, ◌+◌, ◌≡◌, cond, ltb, length, take};
 ghost use Rattle.document.specs.EntriesCode.{entries_in};
-ghost use Rattle.tables.specs.RowsCode.{entry_at, front, is_channel, is_inner, mask_of, text_of, counted, cause_from, trigger_from, effect_of, filter_from, with_channel, action_from, tell_head, told};
+ghost use Rattle.tables.specs.RowsCode.{shown, left, front, is_channel, is_inner, mask_of, text_of, counted, cause_from, trigger_from, effect_of, filter_from, with_channel, action_from, push_name, tell_head, told};
 
-use crate::cells;
+use crate::cells::{Entries, Entry};
 use element::fields;
-use records::{Cause, Effect, Filter, Trigger};
+use records::{Cause, Effect, Filter, Timeout, Trigger};
 use schema::{attributes, kinds};
+use walk::Part;
 
-// Where the triggers' names stand in the file, and the triggers.
+// Where the triggers' names stand in the file, and the triggers: of each array the first `count`. Three arrays, since `expression::compile` is lent
+// starts and ends as two slices and answers also where one of them is longer; fixed memory is a rule of the project.
 #[derive(Clone, Copy)]
 pub struct Names {
     pub starts: [usize; 32],
     pub ends: [usize; 32],
     pub places: [usize; 32],
     pub count: usize,
+}
+
+impl Names {
+    pub fn starts(&self) -> &[usize]
+        ensures { result.now ≡ take self.now.count self.now.starts }
+    {
+        &self.starts[..self.count.min(32)]
+    }
+
+    pub fn ends(&self) -> &[usize]
+        ensures { result.now ≡ take self.now.count self.now.ends }
+    {
+        &self.ends[..self.count.min(32)]
+    }
+
+    pub fn places(&self) -> &[usize]
+        ensures { result.now ≡ take self.now.count self.now.places }
+    {
+        &self.places[..self.count.min(32)]
+    }
+
+    // One name more, if there is room for it.
+    fn push(&mut self, name: Part, place: usize)
+        ensures { self.new ≡ push_name self.old name place }
+    {
+        let last = self.count;
+        if last < 32 {
+            self.starts[last] = name.from;
+            self.ends[last] = name.to;
+            self.places[last] = place;
+            self.count = last + 1;
+        }
+    }
 }
 
 // How many PARAMETERS there are and which channels they have; log_all.
@@ -34,15 +68,15 @@ pub struct Told {
     pub names: Names,
 }
 
-fn cause_from(words: &[u32], at: usize) -> Cause
-    ensures { result ≡ cause_from (entry_at words.now at) }
+fn cause_from(element: Entry<'_>) -> Cause
+    ensures { result ≡ cause_from (shown element.entry) }
 {
-    let channel = cells::number_in(words, at, attributes::CHANNEL);
-    let kind = cells::kind_at(words, at);
+    let channel = element.value(attributes::CHANNEL);
+    let kind = element.kind();
     if kinds::is_same(kind, kinds::TRIGGER_MSG_ID) {
-        let wide = cells::number_in(words, at, attributes::CAN_EXT);
-        let lower = cells::number_in(words, at, attributes::MSGID_MIN);
-        let upper = cells::number_in(words, at, attributes::MSGID);
+        let wide = element.value(attributes::CAN_EXT);
+        let lower = element.value(attributes::MSGID_MIN);
+        let upper = element.value(attributes::MSGID);
         return Cause::Id {
             channel,
             ext: wide == 1,
@@ -51,8 +85,8 @@ fn cause_from(words: &[u32], at: usize) -> Cause
         };
     }
     if kinds::is_same(kind, kinds::TRIGGER_MSG_DLC) {
-        let lower = cells::number_in(words, at, attributes::DLC_MIN);
-        let upper = cells::number_in(words, at, attributes::DLC);
+        let lower = element.value(attributes::DLC_MIN);
+        let upper = element.value(attributes::DLC);
         return Cause::Length {
             channel,
             lower,
@@ -66,12 +100,12 @@ fn cause_from(words: &[u32], at: usize) -> Cause
 }
 
 // The trigger that an entry says.
-pub fn trigger_from(words: &[u32], at: usize) -> Trigger
-    ensures { result ≡ trigger_from (entry_at words.now at) }
+pub fn trigger_from(element: Entry<'_>) -> Trigger
+    ensures { result ≡ trigger_from (shown element.entry) }
 {
-    let word = cells::number_in(words, at, attributes::TIMEOUT);
-    let timeout = records::timeout_at(word);
-    let cause = cause_from(words, at);
+    let word = element.value(attributes::TIMEOUT);
+    let timeout = Timeout::from(word);
+    let cause = cause_from(element);
     Trigger { cause, timeout }
 }
 
@@ -84,24 +118,16 @@ fn effect_of(kind: usize) -> Effect
     Effect::Stop
 }
 
-fn longest_from(given: bool, dlc: u32) -> u32
-    ensures { result ≡ cond given dlc dlc_top }
-{
-    if given { dlc } else { records::DLC_TOP }
-}
-
 // The filter that an entry says, with these channels.
-pub fn filter_from(words: &[u32], at: usize, mask: u32) -> Filter
-    ensures { result ≡ filter_from mask (entry_at words.now at) }
+pub fn filter_from(element: Entry<'_>, mask: u32) -> Filter
+    ensures { result ≡ filter_from mask (shown element.entry) }
 {
-    let effect = effect_of(cells::kind_at(words, at));
-    let wide = cells::number_in(words, at, attributes::CAN_EXT);
-    let given = cells::flag_in(words, at, attributes::DLC);
-    let dlc = cells::number_in(words, at, attributes::DLC);
-    let lower = cells::number_in(words, at, attributes::MSGID_MIN);
-    let upper = cells::number_in(words, at, attributes::MSGID);
-    let shortest = cells::number_in(words, at, attributes::DLC_MIN);
-    let longest = longest_from(given, dlc);
+    let effect = effect_of(element.kind());
+    let wide = element.value(attributes::CAN_EXT);
+    let lower = element.value(attributes::MSGID_MIN);
+    let upper = element.value(attributes::MSGID);
+    let shortest = element.value(attributes::DLC_MIN);
+    let longest = element.given(attributes::DLC).unwrap_or(records::DLC_TOP);
     Filter {
         effect,
         mask,
@@ -113,7 +139,7 @@ pub fn filter_from(words: &[u32], at: usize, mask: u32) -> Filter
     }
 }
 
-// One channel more in a mask of five.
+// One channel more in a mask of five. A test, not `checked_shl`: that ends at 32, and a mask has five channels.
 fn with_channel(mask: u32, channel: u32) -> u32
     ensures { result ≡ with_channel mask channel }
 {
@@ -124,20 +150,16 @@ fn with_channel(mask: u32, channel: u32) -> u32
     }
 }
 
-// The channels of the CHANNELs that stand next, from an offset on.
-pub fn mask_from(words: &[u32], at: usize) -> u32
-    ensures { result ≡ mask_of (front is_channel (entries_in (drop at words.now))) }
+// The channels of the CHANNELs at the front of some entries.
+pub fn mask_from(entries: Entries<'_>) -> u32
+    ensures { result ≡ mask_of (front is_channel (left entries.entry)) }
 {
     let mut mask = 0;
-    let mut here = at;
-    while here < words.len() {
-        let kind = cells::kind_at(words, here);
-        if !kinds::is_same(kind, kinds::CHANNEL) {
+    for element in entries {
+        if !kinds::is_same(element.kind(), kinds::CHANNEL) {
             return mask;
         }
-        let channel = cells::number_at(words, here);
-        mask = with_channel(mask, channel);
-        here = cells::next(words, here);
+        mask = with_channel(mask, element.number());
     }
     mask
 }
@@ -149,21 +171,18 @@ pub fn is_inner(kind: usize) -> bool
     kinds::is_in(kinds::STATEMENT, kind) | kinds::is_in(kinds::ACTIONS, kind)
 }
 
-// Where the EXPRESSION of a statement stands; its elements are next, from an offset on.
-pub fn text_from(words: &[u32], at: usize) -> usize
-    ensures { result ≡ text_of (front is_inner (entries_in (drop at words.now))) }
+// Where the EXPRESSION of a statement stands, whose elements are at the front of some entries; 0 where none does, and a STATEMENT without faults has one.
+pub fn text_from(entries: Entries<'_>) -> usize
+    ensures { result ≡ text_of (front is_inner (left entries.entry)) }
 {
     let mut text = 0;
-    let mut here = at;
-    while here < words.len() {
-        let entry = here;
-        let kind = cells::kind_at(words, entry);
+    for element in entries {
+        let kind = element.kind();
         if !is_inner(kind) {
             return text;
         }
-        here = cells::next(words, entry);
         if kinds::is_same(kind, kinds::EXPRESSION) {
-            text = cells::place_at(words, entry);
+            text = element.place();
         }
     }
     text
@@ -182,7 +201,7 @@ pub fn action_from(kind: usize) -> u32
     3
 }
 
-// Beyond every limit the count stands still.
+// Beyond every limit the count stands still. A test, not `min`: a count above 5 stays what it is (`tell_head` in specs/RowsCode.antt).
 fn one_more(channels: u32) -> u32
     ensures { result ≡ cond (ltb channels 5) (channels + 1) channels }
 {
@@ -190,13 +209,13 @@ fn one_more(channels: u32) -> u32
 }
 
 // What an entry adds to the head.
-fn tell_head(h: Head, words: &[u32], at: usize) -> Head
-    ensures { result ≡ tell_head h (entry_at words.now at) }
+fn tell_head(h: Head, element: Entry<'_>) -> Head
+    ensures { result ≡ tell_head h (shown element.entry) }
 {
-    let kind = cells::kind_at(words, at);
+    let kind = element.kind();
     let mut next = h;
     if kinds::is_same(kind, kinds::PARAMETERS) {
-        let channel = cells::number_in(words, at, attributes::CHANNEL);
+        let channel = element.value(attributes::CHANNEL);
         next.channels = one_more(h.channels);
         if channel < 5 {
             next.present[channel as usize] = true;
@@ -204,7 +223,7 @@ fn tell_head(h: Head, words: &[u32], at: usize) -> Head
         return next;
     }
     if kinds::is_same(kind, kinds::MODE) {
-        let log = cells::number_in(words, at, attributes::LOG_ALL);
+        let log = element.value(attributes::LOG_ALL);
         next.all = h.all | (log == 1);
         return next;
     }
@@ -212,7 +231,7 @@ fn tell_head(h: Head, words: &[u32], at: usize) -> Head
 }
 
 // What all entries say.
-pub(crate) fn tell(file: &[u8], words: &[u32]) -> Told
+pub fn tell(file: &[u8], words: &[u32]) -> Told
     ensures { result ≡ told file.now (entries_in words.now) }
 {
     let mut head = Head {
@@ -220,45 +239,27 @@ pub(crate) fn tell(file: &[u8], words: &[u32]) -> Told
         present: [false; 5],
         all: false,
     };
-    let mut t = Names {
+    let mut names = Names {
         starts: [0; 32],
         ends: [0; 32],
         places: [0; 32],
         count: 0,
     };
-    let mut at = 0;
-    while at < words.len() {
-        let here = at;
-        let kind = cells::kind_at(words, here);
-        at = cells::next(words, here);
-        head = tell_head(head, words, here);
-        if kinds::is_in(kinds::TRIGGERS, kind) {
-            let last = t.count;
-            if last < 32 {
-                let place = cells::place_at(words, here);
-                let p = fields::value_at(file, place, b"name");
-                t.starts[last] = p.from;
-                t.ends[last] = p.to;
-                t.places[last] = place;
-                t.count = last + 1;
-            }
+    for element in (Entries { words }) {
+        head = tell_head(head, element);
+        if kinds::is_in(kinds::TRIGGERS, element.kind()) {
+            let place = element.place();
+            names.push(fields::value_at(file, place, b"name"), place);
         }
     }
-    Told { head, names: t }
+    Told { head, names }
 }
 
 // How many entries are of kinds that stand in `parent`.
 pub fn count_in(words: &[u32], parent: usize) -> usize
     ensures { (result ≡ counted parent (entries_in words.now)) × (result ≤ length words.now) }
 {
-    let mut n = 0;
-    let mut at = 0;
-    while at < words.len() {
-        let kind = cells::kind_at(words, at);
-        at = cells::next(words, at);
-        if kinds::is_in(parent, kind) {
-            n += 1;
-        }
-    }
-    n
+    Entries { words }
+        .filter(|element| kinds::is_in(parent, element.kind()))
+        .count()
 }

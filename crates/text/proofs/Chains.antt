@@ -1,30 +1,13 @@
--- Chains of tests.
+-- Kinds of bytes: what one test says of another.
 use Prim.Native.Nat.{ℕ, ◌<◌}
 use native.Mathlib.Omega.{arith}
 use mathlib.Core.Path.{◌≡◌, refl, sym, ap, ◌∙◌}
-use mathlib.Core.Bool.{Bool, true, false, not, ◌&&◌, ◌||◌, true≢false, or-true, or-false, or_assoc}
+use mathlib.Core.Bool.{true, false, not, ◌&&◌, ◌||◌, true≢false, or-true, or_assoc}
 use lib.Dec.{leb, eqb}
 use borrow.Author.Tests.{leb-false, le-leb, ne_eqb}
 use Rattle.text.specs.Kinds.{is_blank, is_any, is_text}
 use Rattle.text.specs.SpansCode.{is_plain}
 use Rattle.lists.proofs.Cases.{by_cases}
-
--- A chain of `if`s that answers true at the first test that holds is the disjunction of the tests; r is what a callee answered.
-pub or_first : {a r : Bool} (b : Bool) → r ≡ a → r ≡ true → true ≡ (a || b)
-or_first b e t = cc
-
-pub or_second : {a r b : Bool} → r ≡ a → r ≡ false → b ≡ (a || b)
-or_second e t = cc
-
--- the same, where the third test stands before the second
-pub or_3_first : {a r : Bool} (b d : Bool) → r ≡ a → r ≡ true → true ≡ (a || b || d)
-or_3_first b d e t = cc
-
-pub or_3_third : {a r d r' : Bool} (b : Bool) → r ≡ a → r ≡ false → r' ≡ d → r' ≡ true → true ≡ (a || b || d)
-or_3_third b e t e' t' = rw (sym e' ∙ t', or-true)
-
-pub or_3_second : {a r b d r' : Bool} → r ≡ a → r ≡ false → r' ≡ d → r' ≡ false → b ≡ (a || b || d)
-or_3_second {b = b} e t e' t' = rw (sym e ∙ t, sym e' ∙ t') (sym (or-false b))
 
 -- a byte's test without branches
 pub plain_flat : (b : ℕ) → b < 256 → (not (eqb b 45) && (leb 32 b || eqb b 9 || eqb b 13 || eqb b 10)) ≡ is_plain b

@@ -1,13 +1,13 @@
--- Laws of `same`: it decides equality, and a loop may compare byte by byte.
-use Prim.Native.Nat.{ℕ, ◌+◌, ◌≤◌, ◌<◌}
+-- Laws of `same`: it decides equality, and is what `==` says of two slices.
+use Prim.Native.Nat.{ℕ}
 use mathlib.Core.Path.{◌≡◌, refl, sym, ap, ◌∙◌}
 use mathlib.Core.List.{List, [], ◌∷◌}
-use mathlib.Core.Bool.{true, false, true≢false}
-use lib.ListN.{length, get_or, drop, drop_of_length-le}
+use mathlib.Core.Bool.{Bool, true, false, ◌&&◌, true≢false}
+use Rattle.std.specs.Cmp.Lexicographic.{pointwise}
+use lib.ListN.{length}
 use lib.Dec.{eqb}
-use borrow.Author.Tests.{eq-eqb, ne_eqb, eqb-true}
+use borrow.Author.Tests.{eq-eqb, eqb-true}
 use Rattle.text.specs.Texts.{same}
-use Rattle.text.proofs.Spans.{drop_one}
 use Rattle.lists.proofs.Cases.{by_cases}
 
 -- two texts are the same exactly if they are equal
@@ -32,17 +32,10 @@ same_back s t e = by_cases (same t s) (λ g. absurd (true≢false (sym (same_sel
 pub other_length : (s t : List ℕ) → (length s ≡ length t → ⊥) → same s t ≡ false
 other_length s t h = by_cases (same s t) (λ e. absurd (h (ap length (same_equal s t e)))) (λ e. e)
 
--- byte by byte
-module _ (a b : List ℕ) (i : ℕ) where
-  pub same_next : i < length a → i < length b → get_or a i 0 ≡ get_or b i 0
-      → same (drop i a) (drop i b) ≡ same (drop (i + 1) a) (drop (i + 1) b)
-  unfolding same
-  same_next h g e = rw (drop_one a i h, drop_one b i g, eq-eqb (get_or a i 0) (get_or b i 0) e)
-
-  pub same_not : i < length a → i < length b → (get_or a i 0 ≡ get_or b i 0 → ⊥) → same (drop i a) (drop i b) ≡ false
-  unfolding same
-  same_not h g e = rw (drop_one a i h, drop_one b i g, ne_eqb (get_or a i 0) (get_or b i 0) e)
-
-  pub same_over : length a ≤ i → length b ≤ i → same (drop i a) (drop i b) ≡ true
-  unfolding same
-  same_over h g = rw (drop_of_length-le a h, drop_of_length-le b g)
+-- `==` of two slices
+pub same_is : (s t : List ℕ) → pointwise eqb s t ≡ same s t
+unfolding same
+same_is [] [] = refl
+same_is [] (b ∷ t) = refl
+same_is (a ∷ s) [] = refl
+same_is (a ∷ s) (b ∷ t) = ap (λ (q : Bool). eqb a b && q) (same_is s t)

@@ -2,13 +2,22 @@
 use Prim.Native.Nat.{ℕ, zero, suc, ◌+◌, ◌≤◌, ◌<◌}
 use native.Mathlib.Omega.{arith}
 use native.Mathlib.Numerals.{add-one}
-use native.Mathlib.Nat.{le_of_eq, not-le_of_lt, add-zero, add-suc}
-use mathlib.Core.Path.{◌≡◌, refl, sym, ap, ◌∙◌}
-use mathlib.Core.List.{List, ◌∷◌}
-use mathlib.Core.Bool.{Bool, true, false, ◌&&◌, and-true, and_assoc, true≢false}
-use lib.ListN.{length, get_or, drop, drop_of_length-le}
+use native.Mathlib.Nat.{le_of_eq, not-le_of_lt, add-zero}
+use mathlib.Core.Path.{◌≡◌, sym, ap, ◌∙◌}
+use mathlib.Core.List.{List, [], ◌∷◌}
+use mathlib.Core.Bool.{Bool, true, false, true≢false}
+use lib.ListN.{length, get_or, take, drop, drop_of_length-le}
 use lib.Seq.{drop-cons}
-use Rattle.text.specs.SpansCode.{span_at, all_at}
+use denote.Ref.{Bor}
+use Rattle.std.specs.Prelude.{Option, Some, None}
+use Rattle.std.specs.Option.{unwrap_or}
+use Rattle.std.specs.List.{prefix_len}
+use Rattle.std.specs.Slice.{IsGetRangeResult}
+use Rattle.std.proofs.lemmas.List.Folds.{length-prefix_len}
+use Rattle.std.proofs.lemmas.List.{take_rest}
+use lib.Dec.{leb}
+use borrow.Author.Tests.{leb-true, leb-false}
+use Rattle.text.specs.SpansCode.{span_at}
 use Rattle.lists.proofs.Cases.{by_cases, le_or_lt}
 
 pub drop_one : (s : List ℕ) (i : ℕ) → i < length s → drop i s ≡ get_or s i 0 ∷ drop (i + 1) s
@@ -28,27 +37,21 @@ pub span_end : (p : ℕ → Bool) (s : List ℕ) (i : ℕ) → length s ≤ i �
 unfolding span_at
 span_end p s i h = ap (λ (l : List ℕ). span_at p l i) (drop_of_length-le s h)
 
--- m bytes of one kind, and n more
-pub all_more : (p : ℕ → Bool) (s : List ℕ) (i m n : ℕ) {a b : Bool} → a ≡ all_at p s i m → b ≡ all_at p s (i + m) n
-    → (a && b) ≡ all_at p s i (m + n)
-unfolding all_at
-all_more p s i m zero {a} {b} e f = rw (f, and-true a, add-zero m) e
-all_more p s i m (suc n) {a} {b} e f =
-    let q : i + m + n ≡ i + (m + n) = omega arith in
-    rw (f, add-suc m n)
-    (sym (and_assoc a (all_at p s (i + m) n) (p (get_or s (i + m + n) 0)))
-    ∙ rw q (ap (λ (t : Bool). t && p (get_or s (i + (m + n)) 0)) (all_more p s i m n e refl)))
+-- how many bytes of the kind s starts with
+span_prefix : (p : ℕ → Bool) (s : List ℕ) (i : ℕ) → i + prefix_len p s ≡ span_at p s i
+unfolding span_at
+span_prefix p [] i = add-zero i
+span_prefix p (b ∷ s) i =
+    by_cases (p b) (λ t. rw (t, span_at) (omega (arith, span_prefix p s (i + 1)))) (λ t. rw (t, span_at) (add-zero i))
 
--- n bytes on
-pub span_all : (p : ℕ → Bool) (s : List ℕ) (i n : ℕ) → i + n ≤ length s → all_at p s i n ≡ true
-    → span_at p (drop i s) i ≡ span_at p (drop (i + n) s) (i + n)
-unfolding all_at
-span_all p s i zero h e = let q : i ≡ i + 0 = omega arith in ap (λ (j : ℕ). span_at p (drop j s) j) q
-span_all p s i (suc n) h e =
-    let q : i + n + 1 ≡ i + suc n = omega arith in
-    by_cases (all_at p s i n)
-    (λ t. span_all p s i n (omega arith) t ∙ span_more p s (i + n) (omega arith) (rw t at e) ∙ ap (λ (j : ℕ). span_at p (drop j s) j) q)
-    (λ t. absurd (true≢false (sym (rw t at e))))
+pub span_taken : (p : ℕ → Bool) (s : List ℕ) (i : ℕ) {n : ℕ} → n ≡ length (take (prefix_len p s) s) → i + n ≡ span_at p s i
+span_taken p s i e = ap (λ n. i + n) (e ∙ length-prefix_len p s) ∙ span_prefix p s i
+
+-- the bytes from i on, as `get` lends them
+pub rest_is : (s : List ℕ) (i : ℕ) (o : Option (Bor (List ℕ))) (none : Bor (List ℕ)) → IsGetRangeResult s i (length s) o → none.now ≡ []
+    → (unwrap_or o none).now ≡ drop i s
+rest_is s i None none h e = by_cases (leb i (length s)) (λ t. absurd (true≢false (sym (h.1 (leb-true _ _ t, omega arith))))) (λ t. e ∙ sym (drop_of_length-le s (omega (arith, leb-false _ _ t))))
+rest_is s i (Some x) none h e = h.0.2 ∙ take_rest s i
 
 -- from the end of s down
 downward_by : (s : List ℕ) (P : ℕ → Type 0) → ((i : ℕ) → length s ≤ i → P i) → ((i : ℕ) → i < length s → P (i + 1) → P i) → (n i : ℕ)

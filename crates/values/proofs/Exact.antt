@@ -8,18 +8,17 @@ use mathlib.Core.List.{List, [], ◌∷◌, ◌++◌}
 use mathlib.Core.Bool.{true, false, ◌&&◌, true≢false}
 use lib.Dec.{leb, ltb}
 use lib.ListN.{length, take, drop, take-append-drop}
-use borrow.Author.Tests.{leb-true}
+use borrow.Author.Tests.{leb-true, le-leb}
 use Rattle.text.specs.Texts.{bytes, same}
 use Rattle.text.proofs.Equal.{same_equal}
 use Rattle.lists.specs.Lists.{all}
 use Rattle.lists.proofs.Cases.{by_cases}
 use Rattle.lists.proofs.Parts.{and_left, and_right}
+use Rattle.std.specs.Prelude.{Some, None}
 use Rattle.values.specs.Numbers.{digit, positional, SpeltBy, IsNumber}
 use Rattle.values.specs.NumbersCode.{digits_from, digits, number_spelt}
-use Rattle.values.specs.declared.Number.TheVariants.{Value, Nothing}
-use Rattle.values.proofs.Numbers.{inside}
 
-nothing_not : (v : ℕ) → Nothing ≡ Value v → ⊥
+nothing_not : (v : ℕ) → None ≡ Some v → ⊥
 nothing_not v e = let z : ◌≡◌ {A = ℕ} 0 1 = cc in omega arith
 
 -- ---- digits of one base
@@ -28,16 +27,16 @@ shifted base v d n p = rw (add-mul, mul_assoc v base (base ^ n), ← pow-succ' b
 
 -- digits after v come to v shifted, and what they spell
 digits_come : (base v : ℕ) (s : List ℕ) → all (λ b. ltb (digit b) base) s ≡ true
-    → digits_from base v s ≡ Value (v * base ^ length s + positional base s)
+    → digits_from base v s ≡ Some (v * base ^ length s + positional base s)
 unfolding digits_from all positional
-digits_come base v [] a = rw pow-zero (ap Value (omega arith))
+digits_come base v [] a = rw pow-zero (ap Some (omega arith))
 digits_come base v (b ∷ s) a =
     let t = and_left (ltb (digit b) base) (all (λ c. ltb (digit c) base) s) a in
     let r = and_right (ltb (digit b) base) (all (λ c. ltb (digit c) base) s) a in
     rw (t, digits_from)
-    (digits_come base (v * base + digit b) s r ∙ ap Value (shifted base v (digit b) (length s) (positional base s)))
+    (digits_come base (v * base + digit b) s r ∙ ap Some (shifted base v (digit b) (length s) (positional base s)))
 
-digits_all : (base v : ℕ) (s : List ℕ) (w : ℕ) → digits_from base v s ≡ Value w → all (λ b. ltb (digit b) base) s ≡ true
+digits_all : (base v : ℕ) (s : List ℕ) (w : ℕ) → digits_from base v s ≡ Some w → all (λ b. ltb (digit b) base) s ≡ true
 unfolding digits_from all
 digits_all base v [] w e = refl
 digits_all base v (b ∷ s) w e =
@@ -45,12 +44,12 @@ digits_all base v (b ∷ s) w e =
     (λ t. absurd (nothing_not w (rw (t, digits_from) at e)))
 
 module _ (base n : ℕ) (s : List ℕ) (v : ℕ) where
-  digits_spell : digits base n s ≡ Value v → SpeltBy base n s v
+  digits_spell : digits base n s ≡ Some v → SpeltBy base n s v
   unfolding digits
   digits_spell e =
       by_cases (leb 1 (length s) && leb (length s) n)
       (λ t.
-      let f : digits_from base 0 s ≡ Value v = rw t at e in
+      let f : digits_from base 0 s ≡ Some v = rw t at e in
       let a = digits_all base 0 s v f in
       let g = digits_come base 0 s a in
       let w : v ≡ 0 * base ^ length s + positional base s = cc in (
@@ -61,10 +60,10 @@ module _ (base n : ℕ) (s : List ℕ) (v : ℕ) where
       ))
       (λ t. absurd (nothing_not v (rw t at e)))
 
-  spells_digits : SpeltBy base n s v → digits base n s ≡ Value v
+  spells_digits : SpeltBy base n s v → digits base n s ≡ Some v
   unfolding digits
   spells_digits x =
-      rw (inside 1 n (length s) x.0 x.1) (digits_come base 0 s x.2 ∙ ap Value (omega (arith, x.3)))
+      rw (le-leb 1 (length s) x.0, le-leb (length s) n x.1) (digits_come base 0 s x.2 ∙ ap Some (omega (arith, x.3)))
 
 -- ---- `0x`
 prefixed : (s : List ℕ) → same (take 2 s) (bytes "0x") ≡ true → s ≡ bytes "0x" ++ drop 2 s
@@ -78,16 +77,16 @@ not_prefixed s a =
     (λ t. absurd (true≢false (sym a ∙ ap (all (λ b. ltb (digit b) 10)) (prefixed s t)))) (λ t. t)
 
 module _ (s : List ℕ) (v : ℕ) where
-  is_number : number_spelt s ≡ Value v → IsNumber s v
+  is_number : number_spelt s ≡ Some v → IsNumber s v
   unfolding number_spelt
   is_number e =
       by_cases (same (take 2 s) (bytes "0x")) (λ t. inr (drop 2 s, prefixed s t, digits_spell 16 8 (drop 2 s) v (rw t at e)))
       (λ t. inl (digits_spell 10 10 s v (rw t at e)))
 
-  number_is : IsNumber s v → number_spelt s ≡ Value v
+  number_is : IsNumber s v → number_spelt s ≡ Some v
   unfolding number_spelt bytes same
   number_is (inl x) = rw (not_prefixed s x.2) (spells_digits 10 10 s v x)
   number_is (inr (h, e, x)) = rw e (spells_digits 16 8 h v x)
 
-pub number_exactly : (s : List ℕ) (v : ℕ) → (number_spelt s ≡ Value v) ↔ IsNumber s v
+pub number_exactly : (s : List ℕ) (v : ℕ) → (number_spelt s ≡ Some v) ↔ IsNumber s v
 number_exactly s v = (is_number s v, number_is s v)

@@ -6,18 +6,9 @@
 #![tactic(auto)]
 
 ghost use Rattle.std.specs.Prelude.{◌≡◌, ◌≤◌, length};
-ghost use Rattle.values.specs.Numbers.{digit};
 ghost use Rattle.values.specs.NumbersCode.{digits_from, digits, number_spelt};
 
 pub mod sorts;
-
-use text::texts;
-
-#[derive(Clone, Copy)]
-pub enum Number {
-    Value(u64),
-    Nothing,
-}
 
 // What an attribute asks of its value. A number goes from lo to hi; above `most` it is known and not carried.
 #[derive(Clone, Copy)]
@@ -31,82 +22,45 @@ pub enum Sort {
     Flexible,
 }
 
-// Refusal 6: bad value or stray text.
-pub const BAD_VALUE: u32 = 6;
-
-// Refusal 7: known and not carried.
-pub const NOT_CARRIED: u32 = 7;
-
-// What a value is worth: a number for the plan, or a refusal by its number.
-#[derive(Clone, Copy)]
-pub enum Worth {
-    Good(u32),
-    Refused(u32),
-}
-
-// The digit that a byte stands for; 16 where it stands for none.
-fn digit_of(b: u8) -> u64
-    ensures { result ≡ digit b }
-{
-    if b < b'0' {
-        16
-    } else if b <= b'9' {
-        (b - b'0') as u64
-    } else if b < b'A' {
-        16
-    } else if b <= b'F' {
-        (b - 55) as u64
-    } else if b < b'a' {
-        16
-    } else if b <= b'f' {
-        (b - 87) as u64
-    } else {
-        16
-    }
+// Why a value is refused, by the paper's numbers: 6, bad value or stray text; 7, known and not carried.
+#[derive(Clone, Copy, PartialEq, Eq)]
+pub enum Unfit {
+    BadValue,
+    NotCarried,
 }
 
 // The number that all bytes of the text are in the base.
-fn all_digits(text: &[u8], base: u64) -> Number
-    requires { (base ≤ 16) × (length text.now ≤ 10) }
+fn all_digits(text: &[u8], base: u32) -> Option<u64>
+    requires { (2 ≤ base) × (base ≤ 16) × (length text.now ≤ 10) }
     ensures { result ≡ digits_from base 0 text.now }
 {
-    let mut v: u64 = 0;
-    let mut i = 0;
-    while i < text.len() {
-        let b = text[i];
-        let d = digit_of(b);
-        if base <= d {
-            return Number::Nothing;
-        }
-        v = v * base + d;
-        i += 1;
+    let mut v = 0;
+    for b in text {
+        let d = char::from(*b).to_digit(base)?;
+        v = v * u64::from(base) + u64::from(d);
     }
-    Number::Value(v)
+    Some(v)
 }
 
 // 1 to n digits of the base.
-fn some_digits(spelt: &[u8], base: u64, n: usize) -> Number
-    requires { (base ≤ 16) × (n ≤ 10) }
+#[tactic(auto, unfolding(crate::specs::NumbersCode::digits))]
+fn some_digits(spelt: &[u8], base: u32, n: usize) -> Option<u64>
+    requires { (2 ≤ base) × (base ≤ 16) × (n ≤ 10) }
     ensures { result ≡ digits base n spelt.now }
 {
-    if spelt.len() < 1 {
-        return Number::Nothing;
-    }
-    if n < spelt.len() {
-        return Number::Nothing;
+    if !(1..=n).contains(&spelt.len()) {
+        return None;
     }
     all_digits(spelt, base)
 }
 
 // 1 to 10 decimal digits, or `0x` and 1 to 8 hex digits.
-pub(crate) fn number_of(text: &[u8]) -> Number
+#[tactic(auto, using(crate::proofs::Words::same_pointwise), unfolding(crate::specs::NumbersCode::number_spelt, text::specs::Texts::bytes))]
+pub(crate) fn number_of(text: &[u8]) -> Option<u64>
     ensures { result ≡ number_spelt text.now }
 {
-    if text.len() < 2 {
-        return some_digits(text, 10, 10);
+    match text.strip_prefix(b"0x") {
+        Some(hex) => some_digits(hex, 16, 8),
+        None => some_digits(text, 10, 10),
     }
-    if texts::same_text(&text[0..2], b"0x") {
-        return some_digits(&text[2..], 16, 8);
-    }
-    some_digits(text, 10, 10)
 }

@@ -1,41 +1,12 @@
 -- What a buffer holds after a text was laid at its front, as much as fits.
-use Prim.Native.Nat.{ℕ, ◌+◌, ◌-◌, ◌≤◌, ◌<◌}
+use Prim.Native.Nat.{ℕ, ◌+◌, ◌-◌, ◌≤◌}
 use native.Mathlib.Omega.{arith}
 use mathlib.Core.Path.{◌≡◌, refl, sym, ap, ◌∙◌}
 use mathlib.Core.List.{List, [], ◌++◌, append_assoc, append-nil}
-use lib.ListN.{length, get_or, take, drop, set, length-append, length-drop, drop_of_length-le}
+use lib.ListN.{length, take, drop, length-append, length-drop, drop_of_length-le}
 use lib.Seq.{take_all, take_at, drop_at, drop-drop, length-take-le, take-append-add, take-append-le, take-nil}
 use Rattle.lists.proofs.Cases.{le_or_lt}
-use Rattle.lists.specs.FillsCode.{Filled}
-use Rattle.lists.proofs.Fills.{filled_none, filled_all, filled_copy}
 use Rattle.walk.specs.WalkCode.{LaidDown}
-
--- the first n bytes of t are at the front of d
-pub record Laying (t d : List ℕ) (n : ℕ) (e : List ℕ) : Type 0 where
-  pub short : n ≤ length t
-  pub filled : Filled (take n t) d e n
-
-pub laying_none : (t d : List ℕ) → Laying t d 0 d
-laying_none t d = record { short = omega arith; filled = filled_none d }
-
-module _ (t d : List ℕ) (n : ℕ) (e : List ℕ) (x : Laying t d n e) where
-  pub laying_more : n < length t → n < length d → Laying t d (n + 1) (set e n (get_or t n 0))
-  laying_more h k = record { short = omega arith; filled = filled_copy t d e n 0 x.filled h k }
-
-  pub laying_full : n < length t → length d ≤ n → LaidDown t d n e
-  laying_full h k =
-      let q : n ≡ length d = omega (arith, x.filled.within) in
-      record {
-        count = q ∙ sym (length-take-le (length d) t (omega arith));
-        bytes = filled_all x.filled
-            ∙ rw (q, drop_of_length-le d {i = length d} (omega arith), drop_of_length-le d {i = length t} (omega arith));
-      }
-
-  pub laying_whole : length t ≤ n → LaidDown t d n e
-  laying_whole h =
-      let q : n ≡ length t = omega (arith, x.short) in
-      let a : take (length d) t ≡ t = take_all (length d) t (omega (arith, x.filled.within)) in
-      record { count = rw a q; bytes = filled_all x.filled ∙ rw (q, a, take_all (length t) t (omega arith)) }
 
 pub laid_none : (d : List ℕ) → LaidDown [] d 0 d
 laid_none d = let e = take-nil {A = ℕ} (length d) in record { count = sym (ap length e); bytes = rw e refl }

@@ -6,8 +6,8 @@ use mathlib.Core.Bool.{Bool, true, false, cond, ◌&&◌}
 use lib.Dec.{leb}
 use Rattle.walk.specs.declared.Item.{Item}
 use Rattle.walk.specs.WalkCode.{item_at}
-use Rattle.walk.specs.declared.pieces.Single.{Single}
-use Rattle.walk.specs.PiecesCode.{is_close, run_text, item_text}
+use Rattle.std.specs.Prelude.{None}
+use Rattle.walk.specs.PiecesCode.{is_close, one, run_text, item_text}
 
 module _ (f : List ℕ) (o k : ℕ) (first : Item.Text k ≡ item_at f o) (r : Item) (next : r ≡ item_at f k) (whole : Bool)
     (told : whole ≡ is_close r) where
@@ -15,10 +15,10 @@ module _ (f : List ℕ) (o k : ℕ) (first : Item.Text k ≡ item_at f o) (r : I
   unfolding item_text
   run_is = ap (run_text o k) (told ∙ ap is_close next) ∙ ap (item_text f o) first
 
-  pub run_fits : (whole && leb (k - o) 32768) ≡ true → Single.Part o k ≡ item_text f o (item_at f o)
+  pub run_fits : (whole && leb (k - o) 32768) ≡ true → one o k ≡ item_text f o (item_at f o)
   unfolding run_text
-  run_fits t = ap (λ (b : Bool). cond b (Single.Part o k) Single.Pieces) (sym t) ∙ run_is
+  run_fits t = ap (λ (b : Bool). cond b (one o k) None) (sym t) ∙ run_is
 
-  pub run_fits_not : (whole && leb (k - o) 32768) ≡ false → Single.Pieces ≡ item_text f o (item_at f o)
+  pub run_fits_not : (whole && leb (k - o) 32768) ≡ false → None ≡ item_text f o (item_at f o)
   unfolding run_text
-  run_fits_not t = ap (λ (b : Bool). cond b (Single.Part o k) Single.Pieces) (sym t) ∙ run_is
+  run_fits_not t = ap (λ (b : Bool). cond b (one o k) None) (sym t) ∙ run_is

@@ -14,13 +14,14 @@ use Rattle.walk.specs.WalkCode.{item_at, content_at, walk_items, texting, inner_
 use Rattle.walk.proofs.Bounds.{item_from}
 use Rattle.walk.proofs.Turns.{walk_text, walk_close, walk_over}
 use Rattle.shape.proofs.Slices.{slice_part, slice_none}
-use Rattle.walk.specs.declared.pieces.Single.{Single}
-use Rattle.walk.specs.PiecesCode.{is_close, run_text, item_text, body_text, single_text}
+use Rattle.walk.specs.declared.Part.{Part}
+use Rattle.std.specs.Prelude.{Option, Some, None}
+use Rattle.walk.specs.PiecesCode.{is_close, one, run_text, item_text, body_text, single_text}
 
 -- what an answer says of the text t
-abbrev Says : List ℕ → List ℕ → Single → Type 0
-Says f t (Single.Part a b) = (a ≤ b) × (b ≤ length f) × (slice a b f ≡ take 32768 t)
-Says f t Single.Pieces = Unit {0}
+abbrev Says : List ℕ → List ℕ → Option Part → Type 0
+Says f t (Some p) = (p.from ≤ p.to) × (p.to ≤ length f) × (slice p.from p.to f ≡ take 32768 t)
+Says f t None = Unit {0}
 
 -- no text is left at an end tag
 at_close : (f : List ℕ) (n k : ℕ) (r : Item) → r ≡ item_at f k → is_close r ≡ true → 0 < n → walk_items (texting f) f n k ≡ []
@@ -32,11 +33,11 @@ at_close f (suc n) k Item.Child q c h = absurd (true≢false (sym c))
 at_close f (suc n) k (Item.Close m) q c h = walk_close (texting f) f k n m q
 at_close f (suc n) k Item.Broken q c h = absurd (true≢false (sym c))
 
-none_says : (f : List ℕ) (o : ℕ) (t : List ℕ) → o ≤ length f → t ≡ [] → Says f t (Single.Part o o)
+none_says : (f : List ℕ) (o : ℕ) (t : List ℕ) → o ≤ length f → t ≡ [] → Says f t (one o o)
 none_says f o t h e = (omega arith, h, slice_none f o o (omega arith) ∙ sym (ap (take 32768) e ∙ take-nil 32768))
 
 module _ (f : List ℕ) (o k : ℕ) (t : List ℕ) (low : o < k) (high : k ≤ length f) where
-  fitting_says : (fits : Bool) → fits ≡ leb (k - o) 32768 → t ≡ slice o k f → Says f t (cond fits (Single.Part o k) Single.Pieces)
+  fitting_says : (fits : Bool) → fits ≡ leb (k - o) 32768 → t ≡ slice o k f → Says f t (cond fits (one o k) None)
   fitting_says false q e = tt
   fitting_says true q e =
       let s = leb-true (k - o) 32768 (sym q) in
@@ -71,8 +72,8 @@ body_says f (Body.Empty e) =
 body_says f Body.Broken = tt
 
 -- a part that was answered, of any content
-module _ (f : List ℕ) (c : Body) (a b : ℕ) (e : body_text f c ≡ Single.Part a b) where
-  says : Says f (text_in f c) (Single.Part a b)
+module _ (f : List ℕ) (c : Body) (a b : ℕ) (e : body_text f c ≡ one a b) where
+  says : Says f (text_in f c) (one a b)
   says = subst (Says f (text_in f c)) e (body_says f c)
 
   pub body_bounds : (a ≤ b) × (b ≤ length f)
@@ -83,7 +84,7 @@ module _ (f : List ℕ) (c : Body) (a b : ℕ) (e : body_text f c ≡ Single.Par
   body_part = slice_part f a b says.0 says.1 ∙ says.2
 
 -- the same, for any i, also behind the end of the file
-module _ (f : List ℕ) (i a b : ℕ) (e : single_text f i ≡ Single.Part a b) where
+module _ (f : List ℕ) (i a b : ℕ) (e : single_text f i ≡ one a b) where
   pub single_bounds : (a ≤ b) × (b ≤ length f)
   unfolding single_text
   single_bounds = body_bounds f (content_at f i) a b e

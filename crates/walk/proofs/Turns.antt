@@ -184,6 +184,13 @@ Other Item.Child = Unit {0}
 Other (Item.Close k) = Unit {0}
 Other Item.Broken = Unit {0}
 
+pub other_is : (r : Item) → ((m : ℕ) → r ≡ Item.Remark m → ⊥) → Other r
+other_is (Item.Text k) h = tt
+other_is (Item.Remark k) h = h k refl
+other_is Item.Child h = tt
+other_is (Item.Close k) h = tt
+other_is Item.Broken h = tt
+
 pub misc_other : (f : List ℕ) (n j : ℕ) (r : Item) → r ≡ item_at f (past is_blank f j) → Other r → misc_from f (suc n) j ≡ past is_blank f j
 unfolding misc_from
 misc_other f n j (Item.Text k) e p = rw (← e, misc_from)

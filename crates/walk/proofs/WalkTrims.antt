@@ -1,19 +1,24 @@
 -- Laws of `trimmed`, and turns of the loop that trims.
-use Prim.Native.Nat.{ℕ, ◌+◌, ◌-◌, ◌≤◌, ◌<◌}
+use Prim.Native.Nat.{ℕ, ◌+◌, ◌-◌, ◌≤◌}
 use native.Mathlib.Omega.{arith}
+use native.Mathlib.Nat.{add-zero}
 use mathlib.Core.Path.{◌≡◌, refl, sym, ap, ◌∙◌}
 use mathlib.Core.List.{List, [], ◌∷◌, ◌++◌}
 use mathlib.Core.Bool.{true, false, cond, true≢false}
 use mathlib.Core.Logic.{◌↔◌}
-use lib.ListN.{length, get_or, take, drop, length-take, length-drop, drop_of_length-le}
-use lib.Seq.{slice, length-slice}
+use lib.ListN.{length, get_or, take, drop, length-take, length-drop, length-append, drop_of_length-le}
+use lib.Seq.{slice}
+use Rattle.std.specs.List.{prefix_len}
+use Rattle.std.specs.Prelude.{reverse}
+use Rattle.std.proofs.lemmas.List.{reverse-append, reverse-reverse, length-reverse}
+use Rattle.std.proofs.lemmas.List.Folds.{length-prefix_len}
 use Rattle.text.specs.Kinds.{is_blank}
 use Rattle.lists.proofs.Cases.{by_cases}
 use Rattle.text.proofs.Spans.{drop_one, downward, span_more, span_here, span_end, high_of}
 use Rattle.walk.specs.declared.Part.{Part}
 use Rattle.shape.specs.Text.{clipped, cropped, trimmed}
 use Rattle.walk.specs.WalkCode.{past, stray, trim_at}
-use Rattle.shape.proofs.Slices.{slice_take, slice_none, slice_snoc, slice_rest}
+use Rattle.shape.proofs.Slices.{slice_take}
 use Rattle.walk.proofs.Strays.{stray_pass, stray_stop}
 
 clip_pass : (b : ℕ) (s : List ℕ) → is_blank b ≡ true → clipped (b ∷ s) ≡ clipped s
@@ -95,51 +100,34 @@ trim_bounds s =
     let h = high_of is_blank s 0 i refl (omega arith) in
     (omega arith, omega (arith, h, ap length (trim_take s), length-take n (drop i s), length-drop i s))
 
--- the loop: between the offsets stands what is left to crop
-pub record Trim (s : List ℕ) (i k : ℕ) : Type 0 where
-  pub first : i ≡ past is_blank s 0
-  pub low : i ≤ k
-  pub high : k ≤ length s
-  pub same : cropped (slice i k s) ≡ trimmed s
+-- what is cropped are the blanks with which the text starts, read from its end
+crop_long : (r : List ℕ) → length (cropped (reverse r)) + prefix_len is_blank r ≡ length r
+unfolding cropped
+crop_long [] = add-zero 0
+crop_long (b ∷ r) =
+    let q : reverse (b ∷ r) ≡ reverse r ++ (b ∷ []) = reverse-append (b ∷ []) r in
+    by_cases (is_blank b)
+    (λ t. rw (q, crop_blank (reverse r) b t, t) (omega (arith, crop_long r)))
+    (λ t. rw (q, crop_byte (reverse r) b t, t) (omega (arith, length-append (reverse r) (b ∷ []), length-reverse r)))
 
-pub trim_start : (s : List ℕ) (i : ℕ) → i ≡ past is_blank s 0 → Trim s i (length s)
-trim_start s i e = record {
-  first = e;
-  low = high_of is_blank s 0 i e (omega arith);
-  high = omega arith;
-  same = ap cropped (slice_rest s i) ∙ ap (λ (k : ℕ). cropped (drop k s)) e ∙ sym (trim_front s);
-}
+module _ (s : List ℕ) (i n : ℕ) (first : i ≡ past is_blank s 0)
+    (count : n ≡ length (take (prefix_len is_blank (reverse (drop i s))) (reverse (drop i s)))) where
+  blanks_are : length (trimmed s) + n ≡ length s - i
+  blanks_are =
+      let r = reverse (drop i s) in
+      let e : cropped (reverse r) ≡ trimmed s = ap cropped (reverse-reverse (drop i s)) ∙ ap (λ (k : ℕ). cropped (drop k s)) first
+      ∙ sym (trim_front s) in
+      omega (arith, crop_long r, ap length e, count, length-prefix_len is_blank r, length-reverse (drop i s), length-drop i s)
 
-module _ (s : List ℕ) (i k : ℕ) (x : Trim s i k) where
-  last : i < k → slice i k s ≡ slice i (k - 1) s ++ (get_or s (k - 1) 0 ∷ [])
-  last h =
-      let e : k - 1 + 1 ≡ k = omega arith in
-      sym (ap (λ (n : ℕ). slice i n s) e) ∙ slice_snoc s i (k - 1) (omega arith) (omega (arith, x.high))
+  pub trim_room : n ≤ length s
+  trim_room = omega (arith, blanks_are)
 
-  pub trim_again : i < k → is_blank (get_or s (k - 1) 0) ≡ true → Trim s i (k - 1)
-  trim_again h t = record {
-    first = x.first;
-    low = omega arith;
-    high = omega (arith, x.high);
-    same = sym (ap cropped (last h) ∙ crop_blank (slice i (k - 1) s) (get_or s (k - 1) 0) t) ∙ x.same;
-  }
-
-  ends : length (trimmed s) ≡ k - i → record { from = i; to = k } ≡ trim_at s
+  pub trim_is : record { from = i; to = length s - n } ≡ trim_at s
   unfolding trim_at
-  ends e =
-      let q : k ≡ i + length (trimmed s) = omega (arith, x.low) in
-      rw (← x.first) (ap (λ (n : ℕ). let p : Part = record { from = i; to = n } in p) q)
-
-  pub trim_done : i < k → is_blank (get_or s (k - 1) 0) ≡ false → record { from = i; to = k } ≡ trim_at s
-  trim_done h t =
-      let e : slice i k s ≡ trimmed s = last h ∙ sym (crop_byte (slice i (k - 1) s) (get_or s (k - 1) 0) t) ∙ sym (ap cropped (last h))
-      ∙ x.same in
-      ends (sym (ap length e) ∙ length-slice i k s x.high)
-
-  pub trim_over : k ≤ i → record { from = i; to = k } ≡ trim_at s
-  trim_over h =
-      let e : trimmed s ≡ [] = sym x.same ∙ ap cropped (slice_none s i k h) ∙ crop_none in
-      ends (omega (arith, ap length e))
+  trim_is =
+      let h = high_of is_blank s 0 i first (omega arith) in
+      let q : length s - n ≡ i + length (trimmed s) = omega (arith, blanks_are, h) in
+      rw (← first) (ap (λ (k : ℕ). let p : Part = record { from = i; to = k } in p) q)
 
 crop_cons : (b : ℕ) (s : List ℕ) → keep b (cropped s) ≡ cropped (b ∷ s)
 unfolding cropped

@@ -18,23 +18,15 @@ fn skip_from(file: &[u8], i: usize, left: usize) -> usize
         Body::Empty(e) => e,
         Body::Open(o) => {
             let mut j = o;
+            // No iterator over items: where the next one stands the call for a child answers.
             while j < file.len() {
+                // Text and comments stay two arms: joined, the loop's goals would have no names of the source's own.
                 match items::item_at(file, j) {
-                    Item::Text(k) => {
-                        j = k;
-                    }
-                    Item::Remark(k) => {
-                        j = k;
-                    }
-                    Item::Child => {
-                        j = skip_from(file, j, left - 1);
-                    }
-                    Item::Close(k) => {
-                        return k;
-                    }
-                    Item::Broken => {
-                        return file.len();
-                    }
+                    Item::Text(k) => j = k,
+                    Item::Remark(k) => j = k,
+                    Item::Child => j = skip_from(file, j, left - 1),
+                    Item::Close(k) => return k,
+                    Item::Broken => return file.len(),
                 }
             }
             file.len()

@@ -8,16 +8,13 @@ use crate::Item;
 use text::runs;
 
 // Does `-->` stand at i?
+#[tactic(auto, unfolding(crate::specs::WalkCode::closes_remark))]
 fn closes(file: &[u8], i: usize) -> bool
     ensures { result ≡ closes_remark file.now i }
 {
-    if crate::byte_at(file, i) != b'-' {
-        return false;
-    }
-    if crate::byte_at(file, i + 1) != b'-' {
-        return false;
-    }
-    crate::byte_at(file, i + 2) == b'>'
+    crate::byte_at(file, i) == b'-'
+        && crate::byte_at(file, i + 1) == b'-'
+        && crate::byte_at(file, i + 2) == b'>'
 }
 
 // The offset behind the first `-->` from i on.
@@ -25,6 +22,7 @@ fn remark_end(file: &[u8], i: usize) -> usize
     ensures { result ≡ remark_end file.now (drop i file.now) i }
 {
     let mut j = i;
+    // No `for`: a turn goes on by a run of plain bytes.
     while j < file.len() {
         if closes(file, j) {
             return j + 3;
@@ -65,10 +63,7 @@ pub fn item_at(file: &[u8], i: usize) -> Item
 fn prolog_end(file: &[u8]) -> usize
     ensures { result ≡ prolog_end file.now }
 {
-    if crate::byte_at(file, 0) != b'<' {
-        return 0;
-    }
-    if crate::byte_at(file, 1) != b'?' {
+    if crate::byte_at(file, 0) != b'<' || crate::byte_at(file, 1) != b'?' {
         return 0;
     }
     let d = runs::decl_end(file, 2);
@@ -80,25 +75,13 @@ pub fn root_at(file: &[u8]) -> usize
     ensures { result ≡ root_at file.now }
 {
     let mut j = prolog_end(file);
+    // No `for`: each item says where the next one begins.
     while j < file.len() {
         let k = runs::blanks_end(file, j);
-        match item_at(file, k) {
-            Item::Remark(m) => {
-                j = m;
-            }
-            Item::Text(_) => {
-                return k;
-            }
-            Item::Child => {
-                return k;
-            }
-            Item::Close(_) => {
-                return k;
-            }
-            Item::Broken => {
-                return k;
-            }
-        }
+        let Item::Remark(m) = item_at(file, k) else {
+            return k;
+        };
+        j = m;
     }
     j
 }

@@ -5,6 +5,7 @@
 // Promises: every answer is the function of the bytes that specs/WalkCode.antt gives, for every input; what that is on a well-shaped file, in terms of
 // its tree, is proofs/WalkLaws.antt.
 // May not touch: the shape itself (`xml` has checked it, nothing is checked again), and what any name or value means.
+// A file and a place go as two parameters and not as a cursor: each function answers where it came to, and nothing is written through.
 #![tactic(auto)]
 
 ghost use Rattle.std.specs.Prelude.{◌≡◌, get_or};
@@ -24,10 +25,10 @@ pub struct Part {
     pub to: usize,
 }
 
-// What stands next in a start tag.
+// What stands next in a start tag. `Broken` is a case here and in the next two types, and no Err: callers take the cases apart in one `match`.
 #[derive(Clone, Copy)]
 pub enum TagPart {
-    // The name's start and end, the value's start and end; the closing quote stands at the last.
+    // The name's start and end, the value's start and end; the closing quote stands at the last. Two `Part`s would be taken apart at once.
     Attribute(usize, usize, usize, usize),
     // The offset behind `>`.
     Open(usize),
@@ -64,18 +65,13 @@ pub enum Body {
 pub(crate) fn byte_at(file: &[u8], i: usize) -> u8
     ensures { result ≡ get_or file.now i 0 }
 {
-    if i < file.len() { file[i] } else { 0 }
+    file.get(i).copied().unwrap_or(0)
 }
 
 // The offset n further, or the end if that comes first.
+#[tactic(auto, unfolding(crate::specs::WalkCode::ahead))]
 pub(crate) fn ahead(file: &[u8], i: usize, n: usize) -> usize
     ensures { result ≡ ahead file.now i n }
 {
-    if file.len() <= i {
-        file.len()
-    } else if n <= file.len() - i {
-        i + n
-    } else {
-        file.len()
-    }
+    i.saturating_add(n).min(file.len())
 }

@@ -6,33 +6,21 @@ ghost use Rattle.std.specs.Prelude.{◌≡◌};
 ghost use Rattle.walk.specs.PiecesCode.{is_close, item_text, body_text, single_text};
 ghost use Rattle.walk.specs.WalkCode.{item_at};
 
-use crate::{Body, Item, items, tags};
+use crate::{Body, Item, Part, items, tags};
 
 // The size of the buffer that a text in pieces is joined in.
 const MOST: usize = 32768;
 
-// The text of an element as one part of the file, or that it is in several pieces (or too long for a buffer).
-#[derive(Clone, Copy)]
-pub enum Single {
-    Part(usize, usize),
-    Pieces,
-}
-
 // Is it the end tag?
+#[tactic(auto, unfolding(crate::specs::PiecesCode::is_close))]
 fn is_close(item: Item) -> bool
     ensures { result ≡ is_close item }
 {
-    match item {
-        Item::Text(_) => false,
-        Item::Remark(_) => false,
-        Item::Child => false,
-        Item::Close(_) => true,
-        Item::Broken => false,
-    }
+    matches!(item, Item::Close(_))
 }
 
-// The text of an element whose content starts at o.
-fn content_text(file: &[u8], o: usize) -> Single
+// The text of an element whose content starts at o, as one part of the file; none if it is in several pieces, or too long for a buffer.
+fn content_text(file: &[u8], o: usize) -> Option<Part>
     ensures { result ≡ item_text file.now o (item_at file.now o) }
 {
     match items::item_at(file, o) {
@@ -40,31 +28,29 @@ fn content_text(file: &[u8], o: usize) -> Single
             let next = items::item_at(file, k);
             let whole = is_close(next);
             if whole & (k - o <= MOST) {
-                Single::Part(o, k)
+                Some(Part { from: o, to: k })
             } else {
-                Single::Pieces
+                None
             }
         }
-        Item::Remark(_) => Single::Pieces,
-        Item::Child => Single::Pieces,
-        Item::Close(_) => Single::Part(o, o),
-        Item::Broken => Single::Pieces,
+        Item::Close(_) => Some(Part { from: o, to: o }),
+        Item::Remark(_) | Item::Child | Item::Broken => None,
     }
 }
 
-// The text of an element.
-pub fn text_in(file: &[u8], body: Body) -> Single
+// The same of an element with that content.
+pub fn text_in(file: &[u8], body: Body) -> Option<Part>
     ensures { result ≡ body_text file.now body }
 {
     match body {
         Body::Open(o) => content_text(file, o),
-        Body::Empty(_) => Single::Part(0, 0),
-        Body::Broken => Single::Pieces,
+        Body::Empty(_) => Some(Part { from: 0, to: 0 }),
+        Body::Broken => None,
     }
 }
 
-// The text of the element at i.
-pub fn single_text(file: &[u8], i: usize) -> Single
+// The same of the element at i.
+pub fn single_text(file: &[u8], i: usize) -> Option<Part>
     ensures { result ≡ single_text file.now i }
 {
     let body = tags::content_at(file, i);

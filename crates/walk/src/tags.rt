@@ -59,20 +59,13 @@ pub fn content_at(file: &[u8], i: usize) -> Body
 {
     let n = name_of(file, i);
     let mut j = n.to;
+    // No iterator over attributes: the part that ends them is what is answered.
     while j < file.len() {
         match part_at(file, j) {
-            TagPart::Attribute(_, _, _, k) => {
-                j = k + 1;
-            }
-            TagPart::Open(o) => {
-                return Body::Open(o);
-            }
-            TagPart::Empty(e) => {
-                return Body::Empty(e);
-            }
-            TagPart::Broken => {
-                return Body::Broken;
-            }
+            TagPart::Attribute(_, _, _, k) => j = k + 1,
+            TagPart::Open(o) => return Body::Open(o),
+            TagPart::Empty(e) => return Body::Empty(e),
+            TagPart::Broken => return Body::Broken,
         }
     }
     Body::Broken

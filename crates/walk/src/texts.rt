@@ -8,13 +8,13 @@ use crate::{Body, Item, elements, items, tags};
 use text::runs;
 
 // Where an element's content starts; the end of the file if it has none.
+#[tactic(auto, unfolding(crate::specs::WalkCode::inner_start))]
 pub fn inner_start(file: &[u8], body: Body) -> usize
     ensures { result ≡ inner_start file.now body }
 {
     match body {
         Body::Open(o) => o,
-        Body::Empty(_) => file.len(),
-        Body::Broken => file.len(),
+        Body::Empty(_) | Body::Broken => file.len(),
     }
 }
 
@@ -22,14 +22,8 @@ pub fn inner_start(file: &[u8], body: Body) -> usize
 fn lay(text: &[u8], out: &mut [u8]) -> usize
     ensures { LaidDown text.now out.old result out.new }
 {
-    let mut n = 0;
-    while n < text.len() {
-        if out.len() <= n {
-            return n;
-        }
-        out[n] = text[n];
-        n += 1;
-    }
+    let n = text.len().min(out.len());
+    out[..n].copy_from_slice(&text[..n]);
     n
 }
 
@@ -39,24 +33,16 @@ pub fn gather_from(file: &[u8], o: usize, scratch: &mut [u8]) -> usize
 {
     let mut j = o;
     let mut n = 0;
+    // No `for`: each item says where the next one begins.
     while j < file.len() {
         match items::item_at(file, j) {
             Item::Text(k) => {
                 n += lay(&file[j..k], &mut scratch[n..]);
                 j = k;
             }
-            Item::Remark(k) => {
-                j = k;
-            }
-            Item::Child => {
-                j = elements::skip(file, j);
-            }
-            Item::Close(_) => {
-                return n;
-            }
-            Item::Broken => {
-                return n;
-            }
+            Item::Remark(k) => j = k,
+            Item::Child => j = elements::skip(file, j),
+            Item::Close(_) | Item::Broken => return n,
         }
     }
     n
@@ -76,6 +62,7 @@ pub fn has_text(file: &[u8], o: usize) -> bool
     ensures { result ≡ stray (text_from file.now o) }
 {
     let mut j = o;
+    // No `for`: each item says where the next one begins.
     while j < file.len() {
         match items::item_at(file, j) {
             Item::Text(k) => {
@@ -84,18 +71,9 @@ pub fn has_text(file: &[u8], o: usize) -> bool
                 }
                 j = k;
             }
-            Item::Remark(k) => {
-                j = k;
-            }
-            Item::Child => {
-                j = elements::skip(file, j);
-            }
-            Item::Close(_) => {
-                return false;
-            }
-            Item::Broken => {
-                return false;
-            }
+            Item::Remark(k) => j = k,
+            Item::Child => j = elements::skip(file, j),
+            Item::Close(_) | Item::Broken => return false,
         }
     }
     false

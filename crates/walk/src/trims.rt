@@ -12,14 +12,13 @@ pub fn trim(text: &[u8]) -> Part
     ensures { result ≡ trim_at text.now }
 {
     let from = runs::blanks_end(text, 0);
-    let mut to = text.len();
-    while from < to {
-        let b = text[to - 1];
-        if letters::is_blank(b) {
-            to -= 1;
-        } else {
-            return Part { from, to };
-        }
+    let blanks = text[from..]
+        .iter()
+        .rev()
+        .take_while(|b| letters::is_blank(**b))
+        .count();
+    Part {
+        from,
+        to: text.len() - blanks,
     }
-    Part { from, to }
 }

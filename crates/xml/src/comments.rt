@@ -4,42 +4,31 @@
 ghost use Rattle.shape.specs.MachineCode.{idle, comment, bang, text};
 ghost use Rattle.shape.specs.ReadsCode.{Reads};
 
-use shape::Step;
-use text::{letters, runs};
+use shape::{Step, Stop};
+use text::runs;
 
 // Behind `<!--`: to behind `-->`.
 fn comment_text(file: &[u8], from: usize) -> Step
     ensures { Reads (comment text) idle file.now from result }
 {
+    // No `for`: each turn goes to where a reader came to.
     let mut here = from;
-    let mut dashed = false;
     while here < file.len() {
-        let b = file[here];
-        if b == b'-' {
-            if dashed {
-                return crate::expect(file, here + 1, b'>');
-            }
-            here += 1;
-            dashed = true;
-        } else if letters::is_any(b) {
-            here = runs::plain_end(file, here + 1);
-            dashed = false;
-        } else {
-            return Step::Bad(here);
+        let end = runs::plain_end(file, here);
+        let next = crate::expect(file, end, b'-')?;
+        if next < file.len() && file[next] == b'-' {
+            return crate::expect(file, next + 1, b'>');
         }
+        here = next;
     }
-    Step::Bad(here)
+    Err(Stop(here))
 }
 
 // Behind `<!`: to behind `-->`.
 pub(crate) fn comment(file: &[u8], from: usize) -> Step
     ensures { Reads (comment bang) idle file.now from result }
 {
-    match crate::expect(file, from, b'-') {
-        Step::At(dash) => match crate::expect(file, dash, b'-') {
-            Step::At(inner) => comment_text(file, inner),
-            Step::Bad(p) => Step::Bad(p),
-        },
-        Step::Bad(p) => Step::Bad(p),
-    }
+    let dash = crate::expect(file, from, b'-')?;
+    let inner = crate::expect(file, dash, b'-')?;
+    comment_text(file, inner)
 }

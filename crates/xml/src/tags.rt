@@ -4,7 +4,7 @@
 ghost use Rattle.shape.specs.MachineCode.{attr, equal, valued};
 ghost use Rattle.shape.specs.ReadsCode.{Reads, tagged, ReadsAttributes, TagEnd, TagRest, SameName, closing_tag, behind};
 
-use shape::{Step, Tag};
+use shape::{Step, Stop, Tag};
 use text::{letters, runs};
 
 // In an attribute's name: to behind its `=`.
@@ -21,115 +21,76 @@ fn quoted(file: &[u8], from: usize) -> Step
     ensures { Reads (tagged equal) (tagged valued) file.now from result }
 {
     let quote = runs::blanks_end(file, from);
-    match crate::expect(file, quote, b'"') {
-        Step::At(value) => {
-            let end = runs::value_end(file, value);
-            crate::expect(file, end, b'"')
-        }
-        Step::Bad(p) => Step::Bad(p),
-    }
+    let value = crate::expect(file, quote, b'"')?;
+    let end = runs::value_end(file, value);
+    crate::expect(file, end, b'"')
 }
 
 // In an attribute's name: to behind its value.
 fn attribute(file: &[u8], from: usize) -> Step
     ensures { Reads (tagged attr) (tagged valued) file.now from result }
 {
-    match equals(file, from) {
-        Step::At(next) => quoted(file, next),
-        Step::Bad(p) => Step::Bad(p),
-    }
+    let next = equals(file, from)?;
+    quoted(file, next)
 }
 
 // Behind a tag's name or an attribute: past all attributes and blanks that follow.
 fn attributes(file: &[u8], from: usize) -> Step
     ensures { ReadsAttributes file.now from result }
 {
+    // No `for`: each turn goes to where a reader came to.
     let mut here = from;
     while here < file.len() {
         let next = runs::blanks_end(file, here);
-        if next == here {
-            return Step::At(here);
+        if next == here || file.len() <= next || !letters::is_start(file[next]) {
+            return Ok(next);
         }
-        if file.len() <= next {
-            return Step::At(next);
-        }
-        let b = file[next];
-        if letters::is_start(b) {
-            match attribute(file, next + 1) {
-                Step::At(end) => {
-                    here = end;
-                }
-                Step::Bad(p) => {
-                    return Step::Bad(p);
-                }
-            }
-        } else {
-            return Step::At(next);
-        }
+        here = attribute(file, next + 1)?;
     }
-    Step::At(here)
+    Ok(here)
 }
 
 // At the end of a start tag, where no blank stands.
-fn tag_end(file: &[u8], from: usize) -> Tag
+fn tag_end(file: &[u8], from: usize) -> Result<Tag, Stop>
     ensures { TagEnd file.now from result }
 {
     if from < file.len() {
         let b = file[from];
         if b == b'/' {
-            return match crate::expect(file, from + 1, b'>') {
-                Step::At(end) => Tag::Empty(end),
-                Step::Bad(p) => Tag::Fault(p),
-            };
+            let end = crate::expect(file, from + 1, b'>')?;
+            return Ok(Tag::Empty(end));
         }
         if b == b'>' {
-            return Tag::Open(from + 1);
+            return Ok(Tag::Open(from + 1));
         }
     }
-    Tag::Fault(from)
+    Err(Stop(from))
 }
 
 // Behind a tag's name: to behind its `>`.
-pub(crate) fn tag_rest(file: &[u8], from: usize) -> Tag
+pub(crate) fn tag_rest(file: &[u8], from: usize) -> Result<Tag, Stop>
     ensures { TagRest file.now from result }
 {
-    match attributes(file, from) {
-        Step::At(end) => tag_end(file, end),
-        Step::Bad(p) => Tag::Fault(p),
-    }
+    let end = attributes(file, from)?;
+    tag_end(file, end)
 }
 
 // The name must stand here again.
 fn same_name(file: &[u8], name: &[u8], from: usize) -> Step
     ensures { SameName name.now file.now from result }
 {
-    let mut letter = 0;
     let mut here = from;
-    while letter < name.len() {
-        if file.len() <= here {
-            return Step::Bad(here);
-        }
-        let found = file[here];
-        let wanted = name[letter];
-        if found == wanted {
-            letter += 1;
-            here += 1;
-        } else {
-            return Step::Bad(here);
-        }
+    for letter in name {
+        here = crate::expect(file, here, *letter)?;
     }
-    Step::At(here)
+    Ok(here)
 }
 
 // Behind `</`: the name, blanks and `>`.
 pub(crate) fn end_tag(file: &[u8], name: &[u8], from: usize) -> Step
     ensures { Reads (closing_tag name.now) behind file.now from result }
 {
-    match same_name(file, name, from) {
-        Step::At(next) => {
-            let last = runs::blanks_end(file, next);
-            crate::expect(file, last, b'>')
-        }
-        Step::Bad(p) => Step::Bad(p),
-    }
+    let next = same_name(file, name, from)?;
+    let last = runs::blanks_end(file, next);
+    crate::expect(file, last, b'>')
 }

@@ -6,4 +6,4 @@ use Rattle.converter.proofs.head_of.Goals as goal
 
 pub returns : goal.returns
 unfolding names position_of bytes same
-returns c = rw (c.count_in-n.ensures.0, c.count_in-m.ensures.0, c.count_in-k.ensures.0, flag_is c.args.told.head.all)
+returns c = rw (c.count_in-n.ensures.0, c.count_in-m.ensures.0, c.count_in-k.ensures.0, flag_is c.args.told.now.head.all)

@@ -4,10 +4,10 @@ use Rattle.converter_c.proofs.Packing.{packed_words, packed_refused, place_fits}
 use Rattle.converter_c.proofs.steamfiddle_convert.Goals as goal
 
 pub overflow_add-result : goal.overflow_add-result
-overflow_add-result c = let h = place_fits c.args.file.now c.args.plan.now _ _ c.convert-converted.ensures _ _ c.in-Refused.is in omega (arith, h.0, h.1)
+overflow_add-result c = let h = place_fits c.args.file.now c.args.plan.now _ _ c.convert.ensures _ _ c.in-Err.is in omega (arith, h.0, h.1)
 
-pub returns-in-Words : goal.returns-in-Words
-returns-in-Words c = packed_words c.args.file.now c.args.plan.now _ _ c.convert-converted.ensures _ c.in-Words.is
+pub returns-in-Ok : goal.returns-in-Ok
+returns-in-Ok c = packed_words c.args.file.now c.args.plan.now _ _ c.convert.ensures _ c.in-Ok.is
 
-pub returns-in-Refused : goal.returns-in-Refused
-returns-in-Refused c = packed_refused c.args.file.now c.args.plan.now _ _ c.convert-converted.ensures _ _ c.in-Refused.is
+pub returns-in-Err : goal.returns-in-Err
+returns-in-Err c = packed_refused c.args.file.now c.args.plan.now _ _ c.convert.ensures _ _ c.in-Err.is

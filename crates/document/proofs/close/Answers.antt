@@ -5,4 +5,4 @@ use Rattle.document.proofs.close.Goals as goal
 
 pub returns : goal.returns
 unfolding closed_walk found
-returns c = (λ ms. rw c.lacks_some-lacks.ensures, refl, refl, refl)
+returns c = (λ ms. rw c.lacks_some.ensures, refl, refl, refl)

@@ -50,6 +50,6 @@ pub returns-in-Broken : goal.returns-in-Broken
 unfolding gathered_list
 returns-in-Broken c = (tag_done (gathering (rules_for c.args.kind) c.args.file.now c.loop-j.gathered) c.args.file.now c.loop-j.j _ c.loop-j.invariant.0 c.loop-j-test.true _ (sym c.in-Broken.is ∙ c.part_at.ensures) tt, content_breaks c.args.file.now _ _ c.loop-j.invariant.1 c.loop-j-test.true (sym c.in-Broken.is ∙ c.part_at.ensures))
 
-pub returns : goal.returns
+pub returns-after-loop-j : goal.returns-after-loop-j
 unfolding gathered_list
-returns c = (tag_over (gathering (rules_for c.args.kind) c.args.file.now c.loop-j.gathered) c.args.file.now c.loop-j.j _ c.loop-j.invariant.0 c.loop-j-test.false, content_stops c.args.file.now _ _ c.loop-j.invariant.1 c.loop-j-test.false)
+returns-after-loop-j c = (tag_over (gathering (rules_for c.args.kind) c.args.file.now c.loop-j.gathered) c.args.file.now c.loop-j.j _ c.loop-j.invariant.0 c.loop-j-test.false, content_stops c.args.file.now _ _ c.loop-j.invariant.1 c.loop-j-test.false)

@@ -1,14 +1,10 @@
-use Rattle.lists.proofs.Flags.{lacks_start, lacks_more, lacks_found, lacks_none}
+use Rattle.std.proofs.Common.{◌∙◌}
+use borrow.Author.Tests.{lt-ltb}
+use Rattle.lists.proofs.Flags.{lacks_past, lacks_within}
 use Rattle.lists.proofs.lacks_first.Goals as goal
 
-pub loop-at-init : goal.loop-at-init
-loop-at-init c = lacks_start _ _
+pub returns-then-flags-n : goal.returns-then-flags-n
+returns-then-flags-n c = lt-ltb _ _ c.if-flags-n.true ∙ lacks_past _ _ c.if-flags-n.true
 
-pub loop-at-preserved : goal.loop-at-preserved
-loop-at-preserved c = lacks_more _ _ _ c.loop-at.invariant _ c.is_flagged.ensures c.loop-at-test.true c.if-is_flagged.true
-
-pub returns-else-is_flagged : goal.returns-else-is_flagged
-returns-else-is_flagged c = lacks_found _ _ _ c.loop-at.invariant _ c.is_flagged.ensures c.loop-at-test.true c.if-is_flagged.false
-
-pub returns : goal.returns
-returns c = lacks_none _ _ _ c.loop-at.invariant c.loop-at-test.false
+pub returns-else-flags-n : goal.returns-else-flags-n
+returns-else-flags-n c = c.contains.ensures.value ∙ lacks_within _ _ c.if-flags-n.false

@@ -2,8 +2,8 @@
 use Rattle.logger_c.proofs.Loadings.{loading_taken, loading_refused}
 use Rattle.logger_c.proofs.steamfiddle_load.Goals as goal
 
-pub returns-in-Taken : goal.returns-in-Taken
-returns-in-Taken c = loading_taken c.load-loaded.ensures c.in-Taken.is
+pub returns-in-Some : goal.returns-in-Some
+returns-in-Some c = loading_taken c.load.ensures c.in-Some.is
 
-pub returns-in-Refused : goal.returns-in-Refused
-returns-in-Refused c = loading_refused c.load-loaded.ensures c.in-Refused.is
+pub returns-in-None : goal.returns-in-None
+returns-in-None c = rw (c.from.ensures, c.number.ensures) (loading_refused c.load.ensures c.in-None.is)

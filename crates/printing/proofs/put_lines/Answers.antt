@@ -1,18 +1,17 @@
-use native.Mathlib.Omega.{arith}
-use Rattle.printing.proofs.Puts.{lines_none, lines_more, lines_all}
+use Rattle.std.proofs.Common.{arith}
+use Rattle.printing.specs.Printing.{word_lines}
+use Rattle.printing.proofs.Puts.{put_none, lines_more, lines_all}
 use Rattle.printing.proofs.put_lines.Goals as goal
 
-pub loop-i-init : goal.loop-i-init
-loop-i-init c = (omega arith, lines_none c.args.words.now _)
+pub loop-w-init : goal.loop-w-init
+unfolding word_lines
+loop-w-init c = record { within = omega arith; put = put_none _ }
 
-pub put_line-at-requires : goal.put_line-at-requires
-put_line-at-requires c = omega (arith, c.loop-i.invariant.1.place, c.loop-i.invariant.1.long)
-
-pub loop-i-preserved : goal.loop-i-preserved
-loop-i-preserved c = (omega (arith, c.loop-i-test.true), lines_more c.args.words.now _ _ _ _ _ _ _ c.loop-i.invariant.1 (omega (arith, c.loop-i-test.true, c.least-m.ensures)) c.word.ensures c.put_line-at.ensures)
-
-pub shape_of-out : goal.shape_of-out
-shape_of-out c = c.loop-i.invariant.1.long
+pub loop-w-preserved : goal.loop-w-preserved
+loop-w-preserved c = record {
+  within = omega (arith, c.loop-w-test.true);
+  put = lines_more _ _ _ _ _ _ _ _ c.loop-w.invariant.put c.loop-w-test.true c.from.ensures c.put_line-at.ensures;
+}
 
 pub returns : goal.returns
-returns c = lines_all c.args.words.now _ _ c.args.n _ _ _ c.least-m.ensures c.loop-i.invariant.0 c.loop-i-test.false c.loop-i.invariant.1
+returns c = lines_all c.args.words.now _ _ c.args.n _ _ _ c.min.ensures c.loop-w-test.false c.loop-w.invariant.put

@@ -1,21 +1,19 @@
 -- `records::trigger_at` meets its contract. One way for each kind of trigger.
 use mathlib.Core.Path.{◌∙◌, sym}
+use lib.ListN.{get_or}
+use native.Mathlib.Omega.{arith}
 use borrow.Author.Tests.{ne_eqb}
 use Rattle.records.specs.RecordsCode.{trigger_at}
+use Rattle.records.proofs.trigger_at.Goals.{in-1, in-2, in-3, in_default}
 use Rattle.records.proofs.trigger_at.Goals as goal
 
-pub returns-in-1 : goal.returns-in-1
+pub returns : goal.returns
 unfolding trigger_at
-returns-in-1 c = rw (c.timeout_at-timeout.ensures, c.word.ensures, c.word-channel.ensures, c.word-lower.ensures, c.word-upper.ensures, c.word-ext.ensures, sym c.word-kind.ensures ∙ c.in-1.is)
-
-pub returns-in-2 : goal.returns-in-2
-unfolding trigger_at
-returns-in-2 c = rw (c.timeout_at-timeout.ensures, c.word.ensures, c.word-channel.ensures, c.word-lower.ensures, c.word-upper.ensures, sym c.word-kind.ensures ∙ c.in-2.is)
-
-pub returns-in-3 : goal.returns-in-3
-unfolding trigger_at
-returns-in-3 c = rw (c.timeout_at-timeout.ensures, c.word.ensures, c.word-channel.ensures, sym c.word-kind.ensures ∙ c.in-3.is)
-
-pub returns-in_default : goal.returns-in_default
-unfolding trigger_at
-returns-in_default c = rw (c.timeout_at-timeout.ensures, c.word.ensures, sym c.word-kind.ensures, ne_eqb _ 1 c.in_default.in_default-own.rest.0.0.1, ne_eqb _ 2 c.in_default.in_default-own.rest.0.1, ne_eqb _ 3 c.in_default.in_default-own.rest.1)
+returns c =
+    rw (c.from.ensures, c.word-2.ensures)
+    (elim c.match-word.branch [
+      | in-1 w ↦ rw (w.cause-is, c.word-channel.ensures, c.word-lower.ensures, c.word-upper.ensures, w.word-in-1.ensures, sym c.word.ensures ∙ w.in-1.is)
+      | in-2 w ↦ rw (w.cause-is, c.word-channel.ensures, c.word-lower.ensures, c.word-upper.ensures, sym c.word.ensures ∙ w.in-2.is)
+      | in-3 w ↦ rw (w.cause-is, c.word-channel.ensures, sym c.word.ensures ∙ w.in-3.is)
+      | in_default w ↦ rw (w.cause-is, ne_eqb (get_or c.args.rec.now 0 0) 1 (omega arith), ne_eqb (get_or c.args.rec.now 0 0) 2 (omega arith), ne_eqb (get_or c.args.rec.now 0 0) 3 (omega arith))
+    ])

@@ -1,19 +1,14 @@
-use mathlib.Core.Path.{refl}
-use native.Mathlib.Omega.{arith}
-use Rattle.tables.proofs.Turns.{used_hit, used_on, used_none}
+-- `tables::is_used` meets its contract.
+use borrow.Author.Rules.{rules}
+use borrow.Author.Tests.{tests}
+use mathlib.Core.Path.{◌∙◌}
+use lib.ListN.{take, drop}
+use Rattle.text.specs.Texts.{same}
+use Rattle.std.proofs.lemmas.Iterator.{YieldsList-from_slice, YieldsList-from_zip}
+use Rattle.std.proofs.lemmas.Iterator.Consumers.{YieldsList-at}
+use Rattle.std.proofs.lemmas.Iterator.Search.{any_from_yields_List}
+use Rattle.tables.proofs.Turns.{used_is}
 use Rattle.tables.proofs.is_used.Goals as goal
 
-pub loop-i-init : goal.loop-i-init
-loop-i-init c = (c.requires, refl)
-
-pub bounds-ends-i : goal.bounds-ends-i
-bounds-ends-i c = omega (arith, c.loop-i.invariant.0, c.loop-i-test.true)
-
-pub returns-then-is_same : goal.returns-then-is_same
-returns-then-is_same c = used_hit c.args.file.now c.args.starts.now c.args.ends.now c.loop-i.invariant.0 c.args.start c.args.end _ c.loop-i.invariant.1 _ c.is_same.ensures c.loop-i-test.true c.if-is_same.true
-
-pub loop-i-preserved : goal.loop-i-preserved
-loop-i-preserved c = (c.loop-i.invariant.0, used_on c.args.file.now c.args.starts.now c.args.ends.now c.loop-i.invariant.0 c.args.start c.args.end _ c.loop-i.invariant.1 _ c.is_same.ensures c.loop-i-test.true c.if-is_same.false)
-
 pub returns : goal.returns
-returns c = used_none c.args.file.now c.args.starts.now c.args.ends.now c.loop-i.invariant.0 c.args.start c.args.end _ c.loop-i.invariant.1 c.loop-i-test.false
+returns c = any_from_yields_List (λ p. same (drop c.args.start (take c.args.end c.args.file.now)) (drop p.0 (take p.1 c.args.file.now))) c.any.new.self _ _ c.any.ensures.ran (YieldsList-from_zip (YieldsList-at c.zip.ensures.first (YieldsList-from_slice c.args.starts.now cc)) (YieldsList-from_slice c.args.ends.now cc)) (λ x b q k. search (rules, tests)) ∙ used_is c.args.file.now _ c.args.starts.now c.args.ends.now

@@ -2,6 +2,10 @@
 use Rattle.tables.specs.TablesCode.{tabled}
 use Rattle.tables.proofs.read_tables.Goals as goal
 
-pub returns : goal.returns
+pub returns-in-None : goal.returns-in-None
 unfolding tabled
-returns c = rw (c.table_fault-fault.ensures, c.tell-told.ensures)
+returns-in-None c = rw (← c.tell-told.ensures, ← c.table_fault.ensures, c.in-None.is)
+
+pub returns-in-Some : goal.returns-in-Some
+unfolding tabled
+returns-in-Some c = rw (← c.tell-told.ensures, ← c.table_fault.ensures, c.in-Some.is)

@@ -1,22 +1,34 @@
-use mathlib.Core.Path.{refl, sym, ◌∙◌}
-use native.Mathlib.Omega.{arith}
-use Rattle.values.proofs.Numbers.{digits_more, digits_bad, digits_end, one_more_lem, step_fits}
+use Rattle.std.proofs.Common.{sym, ◌∙◌, arith, ◌<◌}
+use Rattle.values.proofs.Numbers.{digit_told, digit_not, digits_more, digits_bad, digits_end, one_more_lem, step_fits}
 use Rattle.values.proofs.all_digits.Goals as goal
 
-pub loop-i-init : goal.loop-i-init
-loop-i-init c = (refl, omega arith, omega arith)
-
-pub returns-then-base-d : goal.returns-then-base-d
-returns-then-base-d c = sym (digits_bad _ _ _ _ _ c.loop-i-test.true c.digit_of-d.ensures c.if-base-d.true) ∙ c.loop-i.invariant.0
+pub returns-in_err-d : goal.returns-in_err-d
+returns-in_err-d c =
+    let f : c.from.result < 256 = let g = c.type_inv.text c.loop-b.b-index in omega (arith, c.from.ensures) in
+    let b = digit_not c.args.base _ f c.requires.1 c.in_err-d.ensures.value in
+    c.from_residual.ensures ∙ sym (digits_bad _ _ _ _ c.loop-b-test.true (rw c.from.ensures at b)) ∙ c.loop-b.invariant.same
 
 pub overflow_mul-v : goal.overflow_mul-v
-overflow_mul-v c = let h = step_fits _ _ _ _ c.requires.0 (omega arith) c.loop-i.invariant.2 c.if-base-d.false in omega arith
+overflow_mul-v c =
+    let d : c.in_ok-d.d < c.args.base = omega (arith, c.in_ok-d.ensures.value.0, c.in_ok-d.ensures.value.1) in
+    let h = step_fits c.args.base c.loop-b.v c.in_ok-d.d c.loop-b.b-index c.requires.1 (omega arith) c.loop-b.invariant.small d in
+    rw c.from-in-loop-b.ensures (omega arith)
 
 pub overflow_add-v : goal.overflow_add-v
-overflow_add-v c = let h = step_fits _ _ _ _ c.requires.0 (omega arith) c.loop-i.invariant.2 c.if-base-d.false in omega arith
+overflow_add-v c =
+    let d : c.in_ok-d.d < c.args.base = omega (arith, c.in_ok-d.ensures.value.0, c.in_ok-d.ensures.value.1) in
+    let h = step_fits c.args.base c.loop-b.v c.in_ok-d.d c.loop-b.b-index c.requires.1 (omega arith) c.loop-b.invariant.small d in
+    rw (c.from-in-loop-b.ensures, c.from-in-loop-b-2.ensures) (omega arith)
 
-pub loop-i-preserved : goal.loop-i-preserved
-loop-i-preserved c = (sym (digits_more _ _ _ _ _ c.loop-i-test.true c.digit_of-d.ensures c.if-base-d.false) ∙ c.loop-i.invariant.0, omega arith, one_more_lem _ _ _ _ c.requires.0 c.loop-i.invariant.2 c.if-base-d.false)
+pub loop-b-preserved : goal.loop-b-preserved
+loop-b-preserved c =
+    let f : c.from.result < 256 = let g = c.type_inv.text c.loop-b.b-index in omega (arith, c.from.ensures) in
+    let d = digit_told c.args.base _ f c.requires.1 c.in_ok-d.d c.in_ok-d.ensures.value in
+    rw (c.from-in-loop-b.ensures, c.from-in-loop-b-2.ensures) (record {
+      same = sym (digits_more _ _ _ _ _ c.loop-b-test.true (rw c.from.ensures at d.0) d.1) ∙ c.loop-b.invariant.same;
+      within = omega arith;
+      small = one_more_lem _ _ _ _ c.requires.1 c.loop-b.invariant.small d.1;
+    })
 
 pub returns : goal.returns
-returns c = sym (digits_end _ _ _ _ c.loop-i-test.false) ∙ c.loop-i.invariant.0
+returns c = sym (digits_end _ _ _ _ c.loop-b-test.false) ∙ c.loop-b.invariant.same

@@ -1,12 +1,11 @@
 -- `values::all_digits` meets its contract. The loop's invariant: from here on, after v, the digits make what all of them make; v stays below 16 ^ i.
-use Prim.Native.Nat.{◌≤◌, ◌<◌, ◌-◌, ◌^◌}
-use mathlib.Core.Path.{◌≡◌}
-use lib.ListN.{length, drop}
+use Rattle.std.proofs.Common.{◌≡◌, ◌≤◌, ◌<◌, ◌^◌, length, drop}
 use Rattle.values.specs.NumbersCode.{digits_from}
 use Rattle.values.proofs.all_digits.Given as goal
 
-abbrev pub invariant-loop-i : goal.invariant-loop-i
-invariant-loop-i l = (digits_from l.base l.v (drop l.i l.text) ≡ digits_from l.base 0 l.text) × (l.i ≤ length l.text) × (l.v < 16 ^ l.i)
-
-abbrev pub decreases-loop-i : goal.decreases-loop-i
-decreases-loop-i l = length l.text - l.i
+abbrev pub invariant-loop-b : goal.invariant-loop-b
+invariant-loop-b l = record {
+  same : digits_from l.base l.v (drop l.b-index l.text) ≡ digits_from l.base 0 l.text;
+  within : l.b-index ≤ length l.text;
+  small : l.v < 16 ^ l.b-index;
+}

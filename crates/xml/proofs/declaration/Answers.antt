@@ -1,13 +1,13 @@
 -- `xml::declaration` meets its contract.
-use Rattle.shape.proofs.Files.{decl_x, decl_m}
 use Rattle.shape.proofs.Steps.{reads_then, reads_bad}
+use Rattle.shape.proofs.Files.{decl_x, decl_m}
 use Rattle.xml.proofs.declaration.Goals as goal
 
-pub returns-in-At-expect : goal.returns-in-At-expect
-returns-in-At-expect c = reads_then c.args.file.now c.args.from c.expect.result (decl_x c.args.file.now c.args.from c.expect.result c.expect.ensures) c.in-At.is (reads_then c.args.file.now c.in-At.second c.expect-in-At.result (decl_m c.args.file.now c.in-At.second c.expect-in-At.result c.expect-in-At.ensures) c.in-At-expect.is c.declared_text.ensures)
+pub returns-in_err-second : goal.returns-in_err-second
+returns-in_err-second c = reads_bad (decl_x c.in_err-second.ensures) c.from_residual.ensures.1
 
-pub returns-in-Bad-expect : goal.returns-in-Bad-expect
-returns-in-Bad-expect c = reads_then c.args.file.now c.args.from c.expect.result (decl_x c.args.file.now c.args.from c.expect.result c.expect.ensures) c.in-At.is (reads_bad c.args.file.now c.in-At.second c.expect-in-At.result (decl_m c.args.file.now c.in-At.second c.expect-in-At.result c.expect-in-At.ensures) c.in-Bad-expect.is)
+pub returns-in_err-third : goal.returns-in_err-third
+returns-in_err-third c = reads_then (decl_x c.in_ok-second.ensures) (reads_bad (decl_m c.in_err-third.ensures) c.from_residual-in_err-third.ensures.1)
 
-pub returns-in-Bad : goal.returns-in-Bad
-returns-in-Bad c = reads_bad c.args.file.now c.args.from c.expect.result (decl_x c.args.file.now c.args.from c.expect.result c.expect.ensures) c.in-Bad.is
+pub returns : goal.returns
+returns c = reads_then (decl_x c.in_ok-second.ensures) (reads_then (decl_m c.in_ok-third.ensures) c.declared_text.ensures)

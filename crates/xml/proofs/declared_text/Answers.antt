@@ -1,13 +1,13 @@
 -- `xml::declared_text` meets its contract.
-use Rattle.shape.proofs.Files.{decl_l, decl_gt, decl_text}
 use Rattle.shape.proofs.Steps.{reads_then, reads_bad}
+use Rattle.shape.proofs.Files.{decl_l, decl_gt, decl_text}
 use Rattle.xml.proofs.declared_text.Goals as goal
 
-pub returns-in-At-expect : goal.returns-in-At-expect
-returns-in-At-expect c = reads_then c.args.file.now c.args.from c.expect.result (decl_l c.args.file.now c.args.from c.expect.result c.expect.ensures) c.in-At.is (reads_then c.args.file.now c.in-At.inner c.expect-in-At.result (decl_text c.args.file.now c.in-At.inner c.decl_end-end.result c.expect-in-At.result c.decl_end-end.ensures c.expect-in-At.ensures) c.in-At-expect.is (decl_gt c.args.file.now c.in-At-expect.last c.expect-in-At-expect.result c.expect-in-At-expect.ensures))
+pub returns-in_err-inner : goal.returns-in_err-inner
+returns-in_err-inner c = reads_bad (decl_l c.in_err-inner.ensures) c.from_residual.ensures.1
 
-pub returns-in-Bad-expect : goal.returns-in-Bad-expect
-returns-in-Bad-expect c = reads_then c.args.file.now c.args.from c.expect.result (decl_l c.args.file.now c.args.from c.expect.result c.expect.ensures) c.in-At.is (reads_bad c.args.file.now c.in-At.inner c.expect-in-At.result (decl_text c.args.file.now c.in-At.inner c.decl_end-end.result c.expect-in-At.result c.decl_end-end.ensures c.expect-in-At.ensures) c.in-Bad-expect.is)
+pub returns-in_err-last : goal.returns-in_err-last
+returns-in_err-last c = reads_then (decl_l c.in_ok-inner.ensures) (reads_bad (decl_text c.decl_end-end.ensures c.in_err-last.ensures) c.from_residual-in_err-last.ensures.1)
 
-pub returns-in-Bad : goal.returns-in-Bad
-returns-in-Bad c = reads_bad c.args.file.now c.args.from c.expect.result (decl_l c.args.file.now c.args.from c.expect.result c.expect.ensures) c.in-Bad.is
+pub returns : goal.returns
+returns c = reads_then (decl_l c.in_ok-inner.ensures) (reads_then (decl_text c.decl_end-end.ensures c.in_ok-last.ensures) (decl_gt c.expect-3.ensures))

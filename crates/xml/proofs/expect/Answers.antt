@@ -1,12 +1,10 @@
--- `xml::expect` meets its contract.
-use Rattle.shape.proofs.Steps.{expects_at, expects_other, expects_end}
+use Rattle.shape.proofs.Steps.{expects_at, expects_other}
+use native.Mathlib.Omega.{arith}
+use Rattle.xml.proofs.expect.Goals.{else-from-file-via-then-from-file+else-file-from, else-from-file-via-else-from-file}
 use Rattle.xml.proofs.expect.Goals as goal
 
-pub returns-then-found-b : goal.returns-then-found-b
-returns-then-found-b c = expects_at _ _ _ c.if-from-file.true c.if-found-b.true
+pub returns-then-file-from : goal.returns-then-file-from
+returns-then-file-from c = expects_at c.args.b c.args.file.now c.args.from c.if-from-file.true c.if-file-from.true
 
-pub returns-else-found-b : goal.returns-else-found-b
-returns-else-found-b c = expects_other _ _ _ c.if-from-file.true c.if-found-b.false
-
-pub returns-else-from-file : goal.returns-else-from-file
-returns-else-from-file c = expects_end _ _ _ c.if-from-file.false
+pub returns : goal.returns
+returns c = expects_other c.args.b c.args.file.now c.args.from (elim c.else-from-file.branch [ else-from-file-via-then-from-file+else-file-from w ↦ λ h. w.if-file-from.false | else-from-file-via-else-from-file w ↦ λ h. absurd (omega (arith, h, w.if-from-file.false)) ])

@@ -1,11 +1,10 @@
 -- `xml::markup` meets its contract.
 use Rattle.shape.proofs.Elements.{text_reads, mark_then}
-use Rattle.shape.proofs.Steps.{then_bad}
-use Rattle.shape.specs.ReadsCode.{in_lt}
+use Rattle.shape.proofs.Steps.{handed_on}
 use Rattle.xml.proofs.markup.Goals as goal
 
-pub returns-in-At : goal.returns-in-At
-returns-in-At c = mark_then c.args.file.now c.args.from c.in-At.next c.expect.result c.after_lt.result (text_reads c.args.file.now c.args.from c.text_end-end.result c.expect.result c.text_end-end.ensures c.expect.ensures) c.in-At.is c.after_lt.ensures
+pub returns-in_err-next : goal.returns-in_err-next
+returns-in_err-next c = rw (handed_on c.from_residual.result c.from_residual.ensures.1) (record { run = (text_reads c.text_end-end.ensures c.in_err-next.ensures).run; past = tt })
 
-pub returns-in-Bad : goal.returns-in-Bad
-returns-in-Bad c = record { run = λ x. then_bad (in_lt x) c.args.file.now c.expect.result ((text_reads c.args.file.now c.args.from c.text_end-end.result c.expect.result c.text_end-end.ensures c.expect.ensures).run x) c.in-Bad.is; past = tt }
+pub returns : goal.returns
+returns c = mark_then (text_reads c.text_end-end.ensures c.in_ok-next.ensures) c.after_lt.ensures

@@ -1,31 +1,27 @@
--- `converter::statements::write_statement` meets its contract: no STATEMENT, or one for each verdict on its expression.
+-- `converter::statements::write_statement` meets its contract: no STATEMENT, or one whose expression is compiled, or is refused.
 use mathlib.Core.Path.{sym, ap, ◌∙◌}
 use native.Mathlib.Omega.{arith}
 use lib.ListN.{length}
 use Rattle.text.specs.Texts.{bytes, same}
 use Rattle.schema.specs.SchemaCode.{names, name_in, attributes, position_of}
-use Rattle.grammar.specs.declared.Verdict.{Verdict}
 use Rattle.grammar.specs.TokensCode.{names_in}
-use Rattle.converter.specs.PlanCode.{verdict_fault}
+use Rattle.document.specs.EntriesCode.{entries_in}
+use Rattle.tables.specs.RowsCode.{shown}
 use Rattle.converter.proofs.Turns.{no_line, line_is, line_good, line_refused}
 use Rattle.converter.proofs.statements.write_statement.Goals as goal
 
 pub returns-then-not-is_same : goal.returns-then-not-is_same
 unfolding names name_in bytes
-returns-then-not-is_same c = no_line c.args.file.now (names_in c.args.file.now c.args.starts.now c.args.ends.now) c.args.entries.now c.args.at c.kind_at-kind.ensures (sym c.is_same.ensures ∙ c.if-not-is_same.true) c.answer.ensures.0 c.answer.ensures.1
+returns-then-not-is_same c = no_line c.args.names.file.now (names_in c.args.names.file.now c.args.names.starts.now c.args.names.ends.now) (shown c.args.element) _ c.kind.ensures (sym c.is_same.ensures ∙ c.if-not-is_same.true)
 
-pub write_line-count-requires : goal.write_line-count-requires
+pub write_line-requires : goal.write_line-requires
 unfolding names name_in bytes attributes position_of same
-write_line-count-requires c = (omega (arith, ap length (line_is c.args.file.now (names_in c.args.file.now c.args.starts.now c.args.ends.now) c.args.entries.now c.args.at c.kind_at-kind.ensures (sym c.is_same.ensures ∙ c.if-not-is_same.false) c.next-from.ensures c.text_from-place.ensures _ c.compile_at-compiled.ensures c.number_in-post.ensures), c.requires.0), c.requires.1)
+write_line-requires c = (omega (arith, ap length (line_is c.args.names.file.now (names_in c.args.names.file.now c.args.names.starts.now c.args.names.ends.now) (shown c.args.element) _ c.kind.ensures (sym c.is_same.ensures ∙ c.if-not-is_same.false) (ap entries_in c.rest-entries.ensures) c.text_from-place.ensures c.compile_at.ensures c.in-Ok.is c.as_slice.ensures.0 c.value-post.ensures), c.requires.0), c.requires.1)
 
-pub returns-in-Good : goal.returns-in-Good
+pub returns-in-Ok : goal.returns-in-Ok
 unfolding names name_in bytes attributes position_of same
-returns-in-Good c = line_good c.args.file.now (names_in c.args.file.now c.args.starts.now c.args.ends.now) c.args.entries.now c.args.at c.kind_at-kind.ensures (sym c.is_same.ensures ∙ c.if-not-is_same.false) c.next-from.ensures c.text_from-place.ensures _ c.compile_at-compiled.ensures c.in-Good.is c.number_in-post.ensures (rw c.answer-in-Good.ensures.1 c.write_line-count.ensures) c.answer-in-Good.ensures.0 c.requires.0
+returns-in-Ok c = line_good c.args.names.file.now (names_in c.args.names.file.now c.args.names.starts.now c.args.names.ends.now) (shown c.args.element) _ c.kind.ensures (sym c.is_same.ensures ∙ c.if-not-is_same.false) (ap entries_in c.rest-entries.ensures) c.text_from-place.ensures c.compile_at.ensures c.in-Ok.is c.as_slice.ensures.0 c.value-post.ensures c.write_line.ensures c.requires.0
 
-pub returns-in-Broken : goal.returns-in-Broken
+pub returns-in-Err : goal.returns-in-Err
 unfolding names name_in bytes
-returns-in-Broken c = line_refused c.args.file.now (names_in c.args.file.now c.args.starts.now c.args.ends.now) c.args.entries.now c.args.at c.kind_at-kind.ensures (sym c.is_same.ensures ∙ c.if-not-is_same.false) c.next-from.ensures c.text_from-place.ensures _ c.compile_at-compiled.ensures (ap (λ (v : Verdict). verdict_fault v c.text_from-place.result) c.in-Broken.is) (λ z. omega (arith, z)) c.answer-in-Broken.ensures.0 c.answer-in-Broken.ensures.1
-
-pub returns-in-Unknown : goal.returns-in-Unknown
-unfolding names name_in bytes
-returns-in-Unknown c = line_refused c.args.file.now (names_in c.args.file.now c.args.starts.now c.args.ends.now) c.args.entries.now c.args.at c.kind_at-kind.ensures (sym c.is_same.ensures ∙ c.if-not-is_same.false) c.next-from.ensures c.text_from-place.ensures _ c.compile_at-compiled.ensures (ap (λ (v : Verdict). verdict_fault v c.text_from-place.result) c.in-Unknown.is) (λ z. omega (arith, z)) c.answer-in-Unknown.ensures.0 c.answer-in-Unknown.ensures.1
+returns-in-Err c = rw c.number.ensures (line_refused c.args.names.file.now (names_in c.args.names.file.now c.args.names.starts.now c.args.names.ends.now) (shown c.args.element) _ c.kind.ensures (sym c.is_same.ensures ∙ c.if-not-is_same.false) (ap entries_in c.rest-entries.ensures) c.text_from-place.ensures c.compile_at.ensures c.in-Err.is)

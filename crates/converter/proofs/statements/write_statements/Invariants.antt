@@ -1,12 +1,11 @@
--- `converter::statements::write_statements` meets its contract: the statements before `at` are written, the next goes to n.
-use Prim.Native.Nat.{◌-◌}
-use lib.ListN.{length}
+-- `converter::statements::write_statements` meets its contract: the statements so far are written, the next goes to n.
 use Rattle.grammar.specs.TokensCode.{names_in}
+use Rattle.document.specs.EntriesCode.{entries_in}
+use Rattle.tables.specs.RowsCode.{left}
 use Rattle.converter.proofs.Turns.{Lined}
 use Rattle.converter.proofs.statements.write_statements.Given as goal
 
-abbrev pub invariant-loop-at : goal.invariant-loop-at
-invariant-loop-at l = Lined l.file (names_in l.file l.starts l.ends) l.entries l.at l.initial.out l.n l.out
-
-abbrev pub decreases-loop-at : goal.decreases-loop-at
-decreases-loop-at l = length l.entries - l.at
+abbrev pub invariant-loop-element : goal.invariant-loop-element
+invariant-loop-element l =
+    (goal.iterator-loop-element).can_next l.element-iterator × (goal.iterator-loop-element).is_finite l.element-iterator
+    × Lined l.names.file.now (names_in l.names.file.now l.names.starts.now l.names.ends.now) (entries_in l.words) (left l.element-iterator) l.initial.out l.n l.out

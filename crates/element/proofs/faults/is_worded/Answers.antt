@@ -12,16 +12,8 @@ use Rattle.element.proofs.faults.is_worded.Goals as goal
 
 pub returns-in-2 : goal.returns-in-2
 unfolding worded bytes same name_in names from any
-returns-in-2 c = in_arm worded _ (2 ∷ []) refl _ c.in-2.is
-
-pub returns-in-23 : goal.returns-in-23
-unfolding worded bytes same name_in names from any
-returns-in-23 c = in_arm worded _ (23 ∷ []) refl _ c.in-23.is
-
-pub returns-in-15 : goal.returns-in-15
-unfolding worded bytes same name_in names from any
-returns-in-15 c = in_arm worded _ (15 ∷ []) refl _ c.in-15.is
+returns-in-2 c = in_arm worded _ (2 ∷ 15 ∷ 23 ∷ []) refl _ c.in-2.is
 
 pub returns-in_default : goal.returns-in_default
 unfolding worded bytes same name_in names from any
-returns-in_default c = in_rest names kind_count refl (λ n. same n (bytes "VERSION") || same n (bytes "CHANNEL") || same n (bytes "EXPRESSION")) _ ((15 ∷ []) ∷ (23 ∷ []) ∷ (2 ∷ []) ∷ []) refl refl _ c.in_default.in_default-own.rest
+returns-in_default c = in_rest names kind_count refl (λ n. same n (bytes "VERSION") || same n (bytes "CHANNEL") || same n (bytes "EXPRESSION")) _ ((2 ∷ 15 ∷ 23 ∷ []) ∷ []) refl refl _ c.in_default.in_default-own.rest

@@ -4,4 +4,4 @@ use Rattle.engine.proofs.Events.{fires_from}
 use Rattle.engine.proofs.event.fire_triggers.Goals as goal
 
 pub returns : goal.returns
-returns c = (c.fire_all.ensures.0 ∙ fires_from c.args.words.now _ _ _ _ _ c.word-count.ensures c.tail-triggers.ensures, c.fire_all.ensures.1, c.fire_all.ensures.2)
+returns c = (c.fire_all.ensures.0 ∙ fires_from c.args.plan.words.now _ _ _ _ _ c.trigger_count-count.ensures c.triggers.ensures, c.fire_all.ensures.1)

@@ -11,7 +11,4 @@ use Rattle.engine.specs.StatementsCode.{act_risen}
 use Rattle.engine.proofs.statements.act_risen.Given as goal
 
 abbrev pub invariant-loop-i : goal.invariant-loop-i
-invariant-loop-i l = (l.i ≤ l.n) × (l.n ≤ 16) × (l.at ≤ 8589934600 * l.i) × (act_risen (map statement_of (records_of statement_size statement_at (l.n - l.i) (drop l.at l.statements))) l.u l.was l.truth l.i l.l ≡ act_risen (map statement_of (rows_of statement_size statement_at 16 l.count l.statements)) l.u l.was l.truth 0 l.initial.l)
-
-abbrev pub decreases-loop-i : goal.decreases-loop-i
-decreases-loop-i l = l.n - l.i
+invariant-loop-i l = (l.count ≤ 16) × (l.at ≤ 8589934600 * l.i) × (act_risen (map statement_of (records_of statement_size statement_at (l.count - l.i) (drop l.at l.statements))) l.u l.was l.truth l.i l.l ≡ act_risen (map statement_of (rows_of statement_size statement_at 16 l.count l.statements)) l.u l.was l.truth 0 l.initial.l)

@@ -11,7 +11,4 @@ use Rattle.engine.specs.StatementsCode.{evaluate_all}
 use Rattle.engine.proofs.statements.evaluate_all.Given as goal
 
 abbrev pub invariant-loop-i : goal.invariant-loop-i
-invariant-loop-i l = (l.i ≤ l.n) × (l.n ≤ 16) × (l.at ≤ 8589934600 * l.i) × (evaluate_all (map statement_of (records_of statement_size statement_at (l.n - l.i) (drop l.at l.statements))) l.states l.i l.r ≡ evaluate_all (map statement_of (rows_of statement_size statement_at 16 l.count l.statements)) l.states 0 l.initial.r)
-
-abbrev pub decreases-loop-i : goal.decreases-loop-i
-decreases-loop-i l = l.n - l.i
+invariant-loop-i l = (l.count ≤ 16) × (l.at ≤ 8589934600 * l.i) × (evaluate_all (map statement_of (records_of statement_size statement_at (l.count - l.i) (drop l.at l.statements))) l.states l.i l.truth ≡ evaluate_all (map statement_of (rows_of statement_size statement_at 16 l.count l.statements)) l.states 0 l.initial.truth)

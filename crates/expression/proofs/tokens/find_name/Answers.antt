@@ -1,26 +1,19 @@
-use Prim.Native.Nat.{◌≤◌}
+-- `find_name` meets its contract: the first of at most 32 places is below 32.
 use native.Mathlib.Omega.{arith}
-use mathlib.Core.Path.{refl, sym, ◌∙◌}
-use mathlib.Core.Logic.{inl, inr}
+use mathlib.Core.Path.{sym}
+use lib.ListN.{length-take}
+use Rattle.std.specs.Prelude.{zip}
 use Rattle.grammar.specs.TokensCode.{names_in}
-use Rattle.grammar.proofs.Names.{find_hit, find_miss, find_over}
+use Rattle.grammar.proofs.Names.{find_first, first_low}
 use Rattle.expression.proofs.tokens.find_name.Goals as goal
 
-pub loop-n-init : goal.loop-n-init
+pub overflow_cast-result : goal.overflow_cast-result
+overflow_cast-result c = omega (arith, first_low c.args.names.file.now c.args.word.now _ 0 (sym c.in-Some.ensures), length-take 32 (zip c.args.names.starts.now c.args.names.ends.now))
+
+pub returns-in-Some : goal.returns-in-Some
 unfolding names_in
-loop-n-init c = (refl, omega arith, refl)
+returns-in-Some c = rw (find_first c.args.names.file.now c.args.word.now c.args.names.starts.now c.args.names.ends.now 32 0, ← c.in-Some.ensures)
 
-pub returns-then-starts-i : goal.returns-then-starts-i
-returns-then-starts-i c = sym (c.loop-n.invariant.2 ∙ find_over _ _ _ _ _ (inl c.if-starts-i.true))
-
-pub returns-then-ends-i : goal.returns-then-ends-i
-returns-then-ends-i c = sym (c.loop-n.invariant.2 ∙ find_over _ _ _ _ _ (inr (inl c.if-ends-i.true)))
-
-pub returns-then-is_named : goal.returns-then-is_named
-returns-then-is_named c = c.loop-n.invariant.0 ∙ sym (c.loop-n.invariant.2 ∙ find_hit _ _ _ _ _ c.if-starts-i.false c.if-ends-i.false (omega arith) (sym c.is_named.ensures ∙ c.if-is_named.true))
-
-pub loop-n-preserved : goal.loop-n-preserved
-loop-n-preserved c = (omega arith, omega arith, c.loop-n.invariant.2 ∙ find_miss _ _ _ _ _ c.if-starts-i.false c.if-ends-i.false (omega arith) (sym c.is_named.ensures ∙ c.if-is_named.false))
-
-pub returns : goal.returns
-returns c = let h : 32 ≤ c.loop-n.i = omega arith in sym (c.loop-n.invariant.2 ∙ find_over _ _ _ _ _ (inr (inr h)))
+pub returns-in-None : goal.returns-in-None
+unfolding names_in
+returns-in-None c = rw (find_first c.args.names.file.now c.args.word.now c.args.names.starts.now c.args.names.ends.now 32 0, ← c.in-None.ensures)

@@ -21,11 +21,11 @@ returns-then-is_name c = at_word _ _ _ c.requires _ _ (sym c.is_name.ensures ∙
 pub returns-then-is_blank : goal.returns-then-is_blank
 returns-then-is_blank c = at_blank _ _ _ c.requires (sym c.is_name.ensures ∙ c.if-is_name.false) (sym c.is_blank.ensures ∙ c.if-is_blank.true)
 
-pub returns-then-b-eq40 : goal.returns-then-b-eq40
-returns-then-b-eq40 c = at_left _ _ _ c.requires (sym c.is_name.ensures ∙ c.if-is_name.false) (sym c.is_blank.ensures ∙ c.if-is_blank.false) c.if-b-eq40.true
+pub returns-in-40 : goal.returns-in-40
+returns-in-40 c = at_left _ _ _ c.requires (sym c.is_name.ensures ∙ c.if-is_name.false) (sym c.is_blank.ensures ∙ c.if-is_blank.false) c.in-40.is
 
-pub returns-then-b-eq41 : goal.returns-then-b-eq41
-returns-then-b-eq41 c = at_right _ _ _ c.requires (sym c.is_name.ensures ∙ c.if-is_name.false) (sym c.is_blank.ensures ∙ c.if-is_blank.false) c.if-b-eq41.true
+pub returns-in-41 : goal.returns-in-41
+returns-in-41 c = at_right _ _ _ c.requires (sym c.is_name.ensures ∙ c.if-is_name.false) (sym c.is_blank.ensures ∙ c.if-is_blank.false) c.in-41.is
 
-pub returns : goal.returns
-returns c = at_other _ _ _ c.requires (sym c.is_name.ensures ∙ c.if-is_name.false) (sym c.is_blank.ensures ∙ c.if-is_blank.false) c.if-b-eq40.false c.if-b-eq41.false
+pub returns-in_default-3 : goal.returns-in_default-3
+returns-in_default-3 c = at_other _ _ _ c.requires (sym c.is_name.ensures ∙ c.if-is_name.false) (sym c.is_blank.ensures ∙ c.if-is_blank.false) (λ e. omega arith) (λ e. omega arith)

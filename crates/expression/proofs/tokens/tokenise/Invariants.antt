@@ -6,7 +6,7 @@ use Rattle.grammar.proofs.Tokens.{Turn}
 use Rattle.expression.proofs.tokens.tokenise.Given as goal
 
 abbrev pub invariant-loop-at : goal.invariant-loop-at
-invariant-loop-at l = Turn (names_in l.file l.starts l.ends) l.text l.at l.count l.tokens
+invariant-loop-at l = Turn (names_in l.names.file.now l.names.starts.now l.names.ends.now) l.text l.at l.out
 
 abbrev pub decreases-loop-at : goal.decreases-loop-at
 decreases-loop-at l = length l.text - l.at

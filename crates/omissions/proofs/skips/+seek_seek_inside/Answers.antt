@@ -12,13 +12,13 @@ pub seek-seek_inside-requires : goal.seek-seek_inside-requires
 seek-seek_inside-requires t c = let n = standing_deep _ _ _ c.requires in (omega (arith, n), standing_inside _ _ _ c.requires)
 
 pub seek-returns-then-is_carried-is_barred : goal.seek-returns-then-is_carried-is_barred
-seek-returns-then-is_carried-is_barred t c = sought_known c.args.file.now _ _ _ c.requires _ c.kind_at-kind.ensures _ _ _ (rw (← c.is_carried.ensures, ← c.is_barred.ensures) c.if-is_carried-is_barred.true) c.seek_inside.ensures
+seek-returns-then-is_carried-is_barred t c = sought_known c.args.file.now _ _ _ c.requires _ c.child_at-child.ensures.0 _ _ _ (rw (← c.is_carried.ensures, ← c.is_barred.ensures) c.if-is_carried-is_barred.true) c.seek_inside.ensures
 
 pub seek-overflow_add-count : goal.seek-overflow_add-count
 seek-overflow_add-count t c = omega (arith, standing_low c.args.file.now _ _ c.requires)
 
 pub seek-returns : goal.seek-returns
-seek-returns t c = sought_other c.args.file.now _ _ _ c.requires _ c.kind_at-kind.ensures _ _ _ (rw (← c.is_carried.ensures, ← c.is_barred.ensures) c.if-is_carried-is_barred.false) (adds_one _ _ _ _ c.put.ensures) (omega arith) c.skip-at.ensures
+seek-returns t c = sought_other c.args.file.now _ _ _ c.requires _ c.child_at-child.ensures.0 _ _ _ (rw (← c.is_carried.ensures, ← c.is_barred.ensures) c.if-is_carried-is_barred.false) (adds_one _ _ _ _ c.put.ensures) (omega arith) c.skip-at.ensures
 
 pub seek_inside-loop-all-init : goal.seek_inside-loop-all-init
 seek_inside-loop-all-init t c = (within_start c.args.file.now _ _ _ c.requires _ _ (sym c.in-Open.is ∙ c.content_at.ensures), refl)

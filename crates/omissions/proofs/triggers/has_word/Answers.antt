@@ -1,23 +1,25 @@
--- `omissions::triggers::has_word` meets its contract: there is one name, and at most 64 tokens.
+-- `omissions::triggers::has_word` meets its contract: the word is the one name, whole.
 use native.Mathlib.Omega.{arith}
-use mathlib.Core.Path.{◌∙◌}
-use borrow.Author.Tests.{not-true, not-false}
-use lib.ListN.{length-take}
-use Rattle.grammar.specs.TokensCode.{spans, names_in}
-use Rattle.grammar.proofs.Whole.{fit_text}
-use Rattle.omissions.specs.TriggersCode.{has_word}
+use mathlib.Core.Path.{◌≡◌, sym, ap, ◌∙◌}
+use mathlib.Core.List.{List, [], ◌∷◌}
+use Prim.Native.Nat.{ℕ}
+use lib.Dec.{eqb}
+use lib.ListN.{length, take}
+use lib.Seq.{take_all}
+use Rattle.std.specs.List.{list_any}
+use Rattle.grammar.specs.TokensCode.{spans, names_in, lexed}
+use Rattle.omissions.specs.TriggersCode.{zero_in, has_word}
 use Rattle.omissions.proofs.triggers.has_word.Goals as goal
 
-pub returns-then-not-lexed : goal.returns-then-not-lexed
+whole : (w s : List ℕ) → lexed (w ∷ []) s ≡ lexed (take (length w) w ∷ []) s
+whole w s = ap (λ (n : List ℕ). lexed (n ∷ []) s) (sym (take_all (length w) w (omega arith)))
+
+pub returns-in-Some : goal.returns-in-Some
 unfolding has_word names_in spans
-returns-then-not-lexed c = rw (← c.tokenise-lexed.ensures, not-true c.tokenise-lexed.result.fine c.if-not-lexed.true)
+returns-in-Some c =
+    c.has_zero.ensures ∙ ap (list_any (λ t. eqb t 0)) c.as_slice.ensures.0
+    ∙ sym (ap zero_in (whole c.args.word.now c.args.text.now ∙ sym c.tokenise.ensures ∙ c.in-Some.is))
 
-pub slice_bounds-tokens-end : goal.slice_bounds-tokens-end
-slice_bounds-tokens-end c = omega (arith, fit_text _ _ c.tokenise-lexed.ensures (not-false _ c.if-not-lexed.false))
-
-pub slice_bounds-has_zero-end : goal.slice_bounds-has_zero-end
-slice_bounds-has_zero-end c = simp length-take (omega (arith, fit_text _ _ c.tokenise-lexed.ensures (not-false _ c.if-not-lexed.false)))
-
-pub returns : goal.returns
+pub returns-in-None : goal.returns-in-None
 unfolding has_word names_in spans
-returns c = c.has_zero.ensures ∙ rw (← c.tokenise-lexed.ensures, not-false c.tokenise-lexed.result.fine c.if-not-lexed.false)
+returns-in-None c = sym (ap zero_in (whole c.args.word.now c.args.text.now ∙ sym c.tokenise.ensures ∙ c.in-None.is))

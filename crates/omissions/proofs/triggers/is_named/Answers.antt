@@ -1,19 +1,12 @@
-use mathlib.Core.Path.{refl}
-use Rattle.tables.proofs.RowsTurns.{less}
-use Rattle.omissions.proofs.TriggersTurns.{seek_hit, seek_on, seek_none}
+-- `omissions::triggers::is_named` meets its contract.
+use borrow.Author.Rules.{rules}
+use borrow.Author.Tests.{tests}
+use mathlib.Core.Path.{◌∙◌}
+use Rattle.std.proofs.lemmas.Iterator.Search.{any_from_yields_List}
+use Rattle.tables.proofs.RowsTurns.{left_is}
+use Rattle.omissions.specs.TriggersCode.{says_word}
+use Rattle.omissions.proofs.TriggersTurns.{any_is}
 use Rattle.omissions.proofs.triggers.is_named.Goals as goal
 
-pub loop-at-init : goal.loop-at-init
-loop-at-init c = refl
-
-pub returns-then-says : goal.returns-then-says
-returns-then-says c = seek_hit _ c.args.entries.now _ c.loop-at.invariant _ c.says.ensures c.loop-at-test.true c.if-says.true
-
-pub loop-at-smaller : goal.loop-at-smaller
-loop-at-smaller c = less c.args.entries.now _ _ c.loop-at-test.true c.next-at.ensures
-
-pub loop-at-preserved : goal.loop-at-preserved
-loop-at-preserved c = seek_on _ c.args.entries.now _ c.loop-at.invariant _ c.says.ensures c.loop-at-test.true _ c.if-says.false c.next-at.ensures
-
 pub returns : goal.returns
-returns c = seek_none _ c.args.entries.now _ c.loop-at.invariant c.loop-at-test.false
+returns c = any_from_yields_List (says_word c.args.file.now c.args.word.now) c.any.new.self _ _ c.any.ensures.ran (left_is _) (λ x b q k. search (rules, tests)) ∙ any_is _ _

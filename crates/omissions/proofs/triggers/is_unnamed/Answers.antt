@@ -7,8 +7,8 @@ use Rattle.omissions.proofs.triggers.is_unnamed.Goals as goal
 
 pub returns-then-not-is_in : goal.returns-then-not-is_in
 unfolding is_unnamed names name_in bytes
-returns-then-not-is_in c = rw (← c.kind_at-kind.ensures, sym c.is_in.ensures ∙ c.if-not-is_in.true)
+returns-then-not-is_in c = rw (← c.kind.ensures, sym c.is_in.ensures ∙ c.if-not-is_in.true)
 
 pub returns : goal.returns
 unfolding is_unnamed names name_in bytes
-returns c = rw (c.is_named.ensures, c.value_at-name.ensures, c.place_at-place.ensures, ← c.kind_at-kind.ensures, sym c.is_in.ensures ∙ c.if-not-is_in.false)
+returns c = rw (c.is_named.ensures, c.cut.ensures, c.value_at-name.ensures, c.place.ensures, ← c.kind.ensures, sym c.is_in.ensures ∙ c.if-not-is_in.false)

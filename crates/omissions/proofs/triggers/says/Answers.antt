@@ -7,8 +7,8 @@ use Rattle.omissions.proofs.triggers.says.Goals as goal
 
 pub returns-then-not-is_same : goal.returns-then-not-is_same
 unfolding says_word names name_in bytes
-returns-then-not-is_same c = rw (← c.kind_at-kind.ensures, sym c.is_same.ensures ∙ c.if-not-is_same.true)
+returns-then-not-is_same c = rw (← c.kind.ensures, sym c.is_same.ensures ∙ c.if-not-is_same.true)
 
 pub returns : goal.returns
 unfolding says_word names name_in bytes
-returns c = c.has_text.ensures ∙ rw (c.place_at-place.ensures, ← c.kind_at-kind.ensures, sym c.is_same.ensures ∙ c.if-not-is_same.false)
+returns c = c.has_text.ensures ∙ rw (c.place.ensures, ← c.kind.ensures, sym c.is_same.ensures ∙ c.if-not-is_same.false)

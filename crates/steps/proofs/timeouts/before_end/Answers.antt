@@ -1,7 +1,7 @@
 -- `steps::timeouts::before_end` meets its contract. Assumes nothing.
 -- what is left of a time against a span
 use Prim.Native.Nat.{ℕ, ◌+◌, ◌-◌, ◌*◌, ◌≤◌}
-use mathlib.Core.Path.{◌≡◌, refl, sym}
+use mathlib.Core.Path.{◌≡◌, refl, ap, ◌∙◌}
 use mathlib.Core.Bool.{Bool, true, false}
 use native.Mathlib.Omega.{arith}
 use lib.Dec.{ltb}
@@ -15,8 +15,5 @@ ltb-shift u t k h = go (ltb u (t + k)) refl
     go true e = lt-ltb (u - t) k (omega (arith, ltb-true u (t + k) e))
     go false e = le-ltb (u - t) k (omega (arith, ltb-false u (t + k) e))
 
-pub returns-then-u-t : goal.returns-then-u-t
-returns-then-u-t c = sym (lt-ltb c.args.u (c.args.t + 1000 * c.args.timeout) (omega arith))
-
 pub returns : goal.returns
-returns c = ltb-shift _ _ _ c.if-u-t.false
+returns c = ltb-shift _ _ _ c.if-u-t.false ∙ ap (λ (n : ℕ). ltb c.args.u (c.args.t + 1000 * n)) c.from.ensures

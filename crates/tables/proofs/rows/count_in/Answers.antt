@@ -1,23 +1,20 @@
-use mathlib.Core.Path.{sym, ◌∙◌}
+-- `tables::rows::count_in` meets its contract.
+use Prim.Native.Nat.{◌<◌}
+use mathlib.Core.Logic.{inl}
+use mathlib.Core.Path.{ap}
 use native.Mathlib.Omega.{arith}
-use native.Mathlib.Nat.{zero-add}
-use Rattle.tables.proofs.RowsTurns.{less, counting_more, counting_same, counting_all}
+use lib.ListN.{length}
+use borrow.Author.Rules.{rules}
+use borrow.Author.Tests.{tests}
+use Rattle.std.proofs.lemmas.Iterator.Consumers.{YieldsList-at, YieldsList-from_filter, count_from_yields_List}
+use Rattle.tables.specs.RowsCode.{left}
+use Rattle.tables.proofs.RowsTurns.{entries_few, left_is, stands_in, counting}
 use Rattle.tables.proofs.rows.count_in.Goals as goal
 
-pub loop-at-init : goal.loop-at-init
-loop-at-init c = (zero-add _, omega arith, omega arith)
-
-pub loop-at-smaller-then-is_in : goal.loop-at-smaller-then-is_in
-loop-at-smaller-then-is_in c = less c.args.words.now _ _ c.loop-at-test.true c.next-at.ensures
-
-pub loop-at-preserved-then-is_in : goal.loop-at-preserved-then-is_in
-loop-at-preserved-then-is_in c = counting_more c.args.parent c.args.words.now _ _ c.loop-at.invariant _ c.loop-at-test.true c.next-at.ensures c.kind_at-kind.ensures (sym c.is_in.ensures ∙ c.if-is_in.true)
-
-pub loop-at-smaller : goal.loop-at-smaller
-loop-at-smaller c = less c.args.words.now _ _ c.loop-at-test.true c.next-at.ensures
-
-pub loop-at-preserved : goal.loop-at-preserved
-loop-at-preserved c = counting_same c.args.parent c.args.words.now _ _ c.loop-at.invariant _ c.loop-at-test.true c.next-at.ensures c.kind_at-kind.ensures (sym c.is_in.ensures ∙ c.if-is_in.false)
-
 pub returns : goal.returns
-returns c = counting_all c.args.parent c.args.words.now _ _ c.loop-at.invariant c.loop-at-test.false
+returns c = counting c.args.parent _ c.args.words.now (count_from_yields_List c.filter.result _ c.count.ensures.ran (YieldsList-from_filter _ (stands_in c.args.parent) (YieldsList-at c.filter.ensures.source (left_is _)) c.filter.ensures.closure (λ x r q k. search (rules, tests))))
+
+pub count-requires-clause-fits : goal.count-requires-clause-fits
+count-requires-clause-fits c = let w : length c.args.words.now < 18446744073709551616 = search rules in
+    let e = ap left c.filter.ensures.source in
+    inl (omega (arith, w, ap length e, entries_few c.args.words.now))

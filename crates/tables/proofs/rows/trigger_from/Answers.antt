@@ -6,4 +6,4 @@ use Rattle.tables.proofs.rows.trigger_from.Goals as goal
 
 pub returns : goal.returns
 unfolding trigger_from attributes position_of same bytes
-returns c = rw (c.cause_from-cause.ensures, c.timeout_at-timeout.ensures, c.number_in-word.ensures)
+returns c = rw (c.cause_from-cause.ensures, c.from-timeout.ensures, c.value-word.ensures)

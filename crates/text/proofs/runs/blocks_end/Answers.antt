@@ -1,20 +1,17 @@
-use Rattle.text.proofs.Spans.{span_all}
+-- `text::runs::blocks_end` meets its contract: the run is behind each block that is plain.
+use mathlib.Core.Path.{refl, ap, ◌∙◌}
+use Rattle.std.proofs.Common.{rules}
+use borrow.Author.Tests.{tests}
+use Rattle.std.specs.List.{list_all}
+use Rattle.std.proofs.lemmas.Iterator.Search.{YieldsList-from_take_while}
+use Rattle.std.proofs.lemmas.Iterator.Consumers.{count_from_yields_List}
 use Rattle.text.specs.SpansCode.{is_plain}
-use mathlib.Core.Path.{refl, sym, ◌∙◌}
-use native.Mathlib.Omega.{arith}
+use Rattle.text.proofs.Spans.{rest_is}
+use Rattle.text.proofs.Blocks.{blocks_lent, span_behind}
 use Rattle.text.proofs.runs.blocks_end.Goals as goal
 
-pub returns-then-s-lt16 : goal.returns-then-s-lt16
-returns-then-s-lt16 c = refl
-
-pub loop-j-init : goal.loop-j-init
-loop-j-init c = refl
-
-pub loop-j-preserved : goal.loop-j-preserved
-loop-j-preserved c = sym (span_all is_plain _ _ 16 (omega arith) (sym c.is_block.ensures ∙ c.if-is_block.true)) ∙ c.loop-j.invariant
-
-pub returns-else-is_block : goal.returns-else-is_block
-returns-else-is_block c = c.loop-j.invariant
-
 pub returns : goal.returns
-returns c = c.loop-j.invariant
+returns c =
+    let rest = ap (λ r. r.now) c.unwrap_or-rest.ensures ∙ rest_is _ _ _ _ c.get.ensures.lookup refl in
+    let count = count_from_yields_List _ c.count-blocks.result c.count-blocks.ensures.ran (YieldsList-from_take_while _ (list_all is_plain) (blocks_lent _ (ap (λ r. r.rest.now) c.take_while.ensures.source ∙ c.chunks_exact.ensures.rest ∙ rest) (ap (λ r. r.size) c.take_while.ensures.source ∙ c.chunks_exact.ensures.size)) c.take_while.ensures.closure c.take_while.ensures.done (λ x b q k. search (rules, tests))) in
+    span_behind is_plain c.args.s.now c.args.i c.count-blocks.result count

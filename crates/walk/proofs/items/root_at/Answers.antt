@@ -3,7 +3,7 @@ use native.Mathlib.Omega.{arith}
 use Rattle.text.specs.Kinds.{is_blank}
 use Rattle.text.proofs.Spans.{low_of}
 use Rattle.walk.proofs.Bounds.{item_from}
-use Rattle.walk.proofs.Turns.{root_start, root_again, root_here, root_over}
+use Rattle.walk.proofs.Turns.{root_start, root_again, root_here, root_over, other_is}
 use Rattle.walk.proofs.items.root_at.Goals as goal
 
 pub loop-j-init : goal.loop-j-init
@@ -15,17 +15,8 @@ loop-j-smaller c = let h = item_from c.args.file.now c.blanks_end-k.result _ (sy
 pub loop-j-preserved : goal.loop-j-preserved
 loop-j-preserved c = root_again c.args.file.now c.loop-j.j c.blanks_end-k.result c.loop-j.invariant c.blanks_end-k.ensures c.loop-j-test.true _ (sym c.in-Remark.is ∙ c.item_at.ensures)
 
-pub returns-in-Text : goal.returns-in-Text
-returns-in-Text c = root_here c.args.file.now c.loop-j.j c.blanks_end-k.result c.loop-j.invariant c.blanks_end-k.ensures c.loop-j-test.true _ (sym c.in-Text.is ∙ c.item_at.ensures) tt
-
-pub returns-in-Child : goal.returns-in-Child
-returns-in-Child c = root_here c.args.file.now c.loop-j.j c.blanks_end-k.result c.loop-j.invariant c.blanks_end-k.ensures c.loop-j-test.true _ (sym c.in-Child.is ∙ c.item_at.ensures) tt
-
-pub returns-in-Close : goal.returns-in-Close
-returns-in-Close c = root_here c.args.file.now c.loop-j.j c.blanks_end-k.result c.loop-j.invariant c.blanks_end-k.ensures c.loop-j-test.true _ (sym c.in-Close.is ∙ c.item_at.ensures) tt
-
-pub returns-in-Broken : goal.returns-in-Broken
-returns-in-Broken c = root_here c.args.file.now c.loop-j.j c.blanks_end-k.result c.loop-j.invariant c.blanks_end-k.ensures c.loop-j-test.true _ (sym c.in-Broken.is ∙ c.item_at.ensures) tt
+pub returns-in_default : goal.returns-in_default
+returns-in_default c = root_here c.args.file.now c.loop-j.j c.blanks_end-k.result c.loop-j.invariant c.blanks_end-k.ensures c.loop-j-test.true _ c.item_at.ensures (other_is _ c.in_default.not-Remark)
 
 pub returns : goal.returns
 returns c = root_over _ _ c.loop-j.invariant c.loop-j-test.false

@@ -1,5 +1,6 @@
 -- `walk::pieces::content_text` meets its contract.
 use mathlib.Core.Path.{ap, sym, ◌∙◌}
+use mathlib.Core.Logic.{inl, inr}
 use native.Mathlib.Omega.{arith}
 use Rattle.walk.proofs.Bounds.{item_from}
 use Rattle.walk.specs.PiecesCode.{item_text}
@@ -17,16 +18,13 @@ returns-else-whole-k c = run_fits_not c.args.file.now c.args.o _ (sym c.in-Text.
 
 pub returns-in-Remark : goal.returns-in-Remark
 unfolding item_text
-returns-in-Remark c = ap (item_text c.args.file.now c.args.o) (sym c.in-Remark.is ∙ c.item_at.ensures)
-
-pub returns-in-Child : goal.returns-in-Child
-unfolding item_text
-returns-in-Child c = ap (item_text c.args.file.now c.args.o) (sym c.in-Child.is ∙ c.item_at.ensures)
+returns-in-Remark c =
+    elim c.in-Remark.is [
+      | inl p ↦ ap (item_text c.args.file.now c.args.o) (sym p.1 ∙ c.item_at.ensures)
+      | inr (inl p) ↦ ap (item_text c.args.file.now c.args.o) (sym p ∙ c.item_at.ensures)
+      | inr (inr p) ↦ ap (item_text c.args.file.now c.args.o) (sym p ∙ c.item_at.ensures)
+    ]
 
 pub returns-in-Close : goal.returns-in-Close
 unfolding item_text
 returns-in-Close c = ap (item_text c.args.file.now c.args.o) (sym c.in-Close.is ∙ c.item_at.ensures)
-
-pub returns-in-Broken : goal.returns-in-Broken
-unfolding item_text
-returns-in-Broken c = ap (item_text c.args.file.now c.args.o) (sym c.in-Broken.is ∙ c.item_at.ensures)

@@ -1,6 +1,7 @@
 use Prim.Native.Nat.{◌-◌}
 use mathlib.Core.Path.{sym, ◌∙◌}
 use mathlib.Core.List.{◌++◌}
+use mathlib.Core.Logic.{inl, inr}
 use native.Mathlib.Omega.{arith}
 use lib.ListN.{length, take, drop, length-take}
 use Rattle.walk.specs.WalkCode.{texting}
@@ -50,13 +51,12 @@ pub shape_of-scratch-in-Close : goal.shape_of-scratch-in-Close
 shape_of-scratch-in-Close c = laid_long c.loop-j.invariant.text _ c.loop-j.n _ c.loop-j.invariant.laid
 
 pub returns-in-Close : goal.returns-in-Close
-returns-in-Close c = gather_done c.args.file.now _ c.args.scratch.now c.loop-j.j c.loop-j.n c.loop-j.scratch c.loop-j.invariant (on_close (texting c.args.file.now) c.args.file.now (λ a. c.loop-j.invariant.text ++ a) c.loop-j.j _ c.loop-j.invariant.turn c.in-Close.field-0 c.loop-j-test.true (sym c.in-Close.is ∙ c.item_at.ensures))
-
-pub shape_of-scratch-in-Broken : goal.shape_of-scratch-in-Broken
-shape_of-scratch-in-Broken c = laid_long c.loop-j.invariant.text _ c.loop-j.n _ c.loop-j.invariant.laid
-
-pub returns-in-Broken : goal.returns-in-Broken
-returns-in-Broken c = gather_done c.args.file.now _ c.args.scratch.now c.loop-j.j c.loop-j.n c.loop-j.scratch c.loop-j.invariant (on_broken (texting c.args.file.now) c.args.file.now (λ a. c.loop-j.invariant.text ++ a) c.loop-j.j _ c.loop-j.invariant.turn c.loop-j-test.true (sym c.in-Broken.is ∙ c.item_at.ensures))
+returns-in-Close c =
+    gather_done c.args.file.now _ c.args.scratch.now c.loop-j.j c.loop-j.n c.loop-j.scratch c.loop-j.invariant
+    (elim c.in-Close.is [
+      | inl p ↦ on_close (texting c.args.file.now) c.args.file.now (λ a. c.loop-j.invariant.text ++ a) c.loop-j.j _ c.loop-j.invariant.turn p.0 c.loop-j-test.true (sym p.1 ∙ c.item_at.ensures)
+      | inr p ↦ on_broken (texting c.args.file.now) c.args.file.now (λ a. c.loop-j.invariant.text ++ a) c.loop-j.j _ c.loop-j.invariant.turn c.loop-j-test.true (sym p ∙ c.item_at.ensures)
+    ])
 
 pub shape_of-scratch : goal.shape_of-scratch
 shape_of-scratch c = laid_long c.loop-j.invariant.text _ c.loop-j.n _ c.loop-j.invariant.laid

@@ -1,4 +1,5 @@
 use mathlib.Core.Path.{sym, ◌∙◌}
+use mathlib.Core.Logic.{inl, inr}
 use native.Mathlib.Omega.{arith}
 use Rattle.walk.specs.WalkCode.{texting, stray}
 use Rattle.walk.proofs.Bounds.{item_from, skipped_bounds}
@@ -32,11 +33,11 @@ loop-j-preserved c = let h = skipped_bounds c.args.file.now c.loop-j.j c.loop-j-
 
 pub returns-in-Close : goal.returns-in-Close
 unfolding stray
-returns-in-Close c = on_close (texting c.args.file.now) c.args.file.now stray _ _ c.loop-j.invariant c.in-Close.field-0 c.loop-j-test.true (sym c.in-Close.is ∙ c.item_at.ensures)
-
-pub returns-in-Broken : goal.returns-in-Broken
-unfolding stray
-returns-in-Broken c = on_broken (texting c.args.file.now) c.args.file.now stray _ _ c.loop-j.invariant c.loop-j-test.true (sym c.in-Broken.is ∙ c.item_at.ensures)
+returns-in-Close c =
+    elim c.in-Close.is [
+      | inl p ↦ on_close (texting c.args.file.now) c.args.file.now stray _ _ c.loop-j.invariant p.0 c.loop-j-test.true (sym p.1 ∙ c.item_at.ensures)
+      | inr p ↦ on_broken (texting c.args.file.now) c.args.file.now stray _ _ c.loop-j.invariant c.loop-j-test.true (sym p ∙ c.item_at.ensures)
+    ]
 
 pub returns : goal.returns
 unfolding stray

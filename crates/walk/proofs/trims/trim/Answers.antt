@@ -1,15 +1,30 @@
-use mathlib.Core.Path.{sym, ◌∙◌}
-use Rattle.walk.proofs.WalkTrims.{trim_start, trim_again, trim_done, trim_over}
+-- `walk::trims::trim` meets its contract.
+use native.Mathlib.Omega.{arith}
+use mathlib.Core.Path.{ap, ◌∙◌}
+use lib.ListN.{drop}
+use Rattle.std.proofs.lemmas.List.{take_rest}
+use Rattle.std.proofs.Common.{rules}
+use borrow.Author.Tests.{tests}
+use Rattle.std.proofs.lemmas.Iterator.Adapters.{YieldsList-from_rev_slice}
+use Rattle.std.proofs.lemmas.Iterator.Search.{YieldsList-from_take_while}
+use Rattle.std.proofs.lemmas.Iterator.Consumers.{count_from_yields_List}
+use Rattle.text.specs.Kinds.{is_blank}
+use Rattle.text.proofs.Spans.{high_of}
+use Rattle.walk.proofs.WalkTrims.{trim_room, trim_is}
 use Rattle.walk.proofs.trims.trim.Goals as goal
 
-pub loop-to-init : goal.loop-to-init
-loop-to-init c = trim_start c.args.text.now _ c.blanks_end-from.ensures
+pub slice_bounds-iter-count : goal.slice_bounds-iter-count
+slice_bounds-iter-count c = let h = high_of is_blank c.args.text.now 0 c.blanks_end-from.result c.blanks_end-from.ensures (omega arith) in omega arith
 
-pub loop-to-preserved : goal.loop-to-preserved
-loop-to-preserved c = trim_again c.args.text.now _ _ c.loop-to.invariant c.loop-to-test.true (sym c.is_blank.ensures ∙ c.if-is_blank.true)
+pub slice_bounds-iter-start : goal.slice_bounds-iter-start
+slice_bounds-iter-start c = let h = high_of is_blank c.args.text.now 0 c.blanks_end-from.result c.blanks_end-from.ensures (omega arith) in omega arith
 
-pub returns-else-is_blank : goal.returns-else-is_blank
-returns-else-is_blank c = trim_done c.args.text.now _ _ c.loop-to.invariant c.loop-to-test.true (sym c.is_blank.ensures ∙ c.if-is_blank.false)
+pub overflow_sub-result : goal.overflow_sub-result
+overflow_sub-result c =
+    let count = count_from_yields_List _ c.count-blanks.result c.count-blanks.ensures.ran (YieldsList-from_take_while _ is_blank (YieldsList-from_rev_slice (drop c.blanks_end-from.result c.args.text.now) (ap (λ r. r.iter.rest.now) c.take_while.ensures.source ∙ ap (λ r. r.rest.now) c.rev.ensures.source ∙ c.iter.ensures.rest ∙ take_rest c.args.text.now c.blanks_end-from.result)) c.take_while.ensures.closure c.take_while.ensures.done (λ x b q k. search (rules, tests))) in
+    trim_room c.args.text.now _ _ c.blanks_end-from.ensures count
 
 pub returns : goal.returns
-returns c = trim_over c.args.text.now _ _ c.loop-to.invariant c.loop-to-test.false
+returns c =
+    let count = count_from_yields_List _ c.count-blanks.result c.count-blanks.ensures.ran (YieldsList-from_take_while _ is_blank (YieldsList-from_rev_slice (drop c.blanks_end-from.result c.args.text.now) (ap (λ r. r.iter.rest.now) c.take_while.ensures.source ∙ ap (λ r. r.rest.now) c.rev.ensures.source ∙ c.iter.ensures.rest ∙ take_rest c.args.text.now c.blanks_end-from.result)) c.take_while.ensures.closure c.take_while.ensures.done (λ x b q k. search (rules, tests))) in
+    trim_is c.args.text.now _ _ c.blanks_end-from.ensures count

@@ -2,11 +2,11 @@
 use Rattle.shape.proofs.Steps.{reads_then, reads_bad, com_bang, com_bang_2}
 use Rattle.xml.proofs.comments.comment.Goals as goal
 
-pub returns-in-At-expect : goal.returns-in-At-expect
-returns-in-At-expect c = reads_then c.args.file.now c.args.from c.expect.result (com_bang c.args.file.now c.args.from c.expect.result c.expect.ensures) c.in-At.is (reads_then c.args.file.now c.in-At.dash c.expect-in-At.result (com_bang_2 c.args.file.now c.in-At.dash c.expect-in-At.result c.expect-in-At.ensures) c.in-At-expect.is c.comment_text.ensures)
+pub returns-in_err-dash : goal.returns-in_err-dash
+returns-in_err-dash c = reads_bad (com_bang c.in_err-dash.ensures) c.from_residual.ensures.1
 
-pub returns-in-Bad-expect : goal.returns-in-Bad-expect
-returns-in-Bad-expect c = reads_then c.args.file.now c.args.from c.expect.result (com_bang c.args.file.now c.args.from c.expect.result c.expect.ensures) c.in-At.is (reads_bad c.args.file.now c.in-At.dash c.expect-in-At.result (com_bang_2 c.args.file.now c.in-At.dash c.expect-in-At.result c.expect-in-At.ensures) c.in-Bad-expect.is)
+pub returns-in_err-inner : goal.returns-in_err-inner
+returns-in_err-inner c = reads_then (com_bang c.in_ok-dash.ensures) (reads_bad (com_bang_2 c.in_err-inner.ensures) c.from_residual-in_err-inner.ensures.1)
 
-pub returns-in-Bad : goal.returns-in-Bad
-returns-in-Bad c = reads_bad c.args.file.now c.args.from c.expect.result (com_bang c.args.file.now c.args.from c.expect.result c.expect.ensures) c.in-Bad.is
+pub returns : goal.returns
+returns c = reads_then (com_bang c.in_ok-dash.ensures) (reads_then (com_bang_2 c.in_ok-inner.ensures) c.comment_text.ensures)

@@ -1,25 +1,23 @@
 use Prim.Native.Nat.{◌+◌}
-use Rattle.shape.proofs.Steps.{past_from, com_dash, com_dash_2, com_any, com_plain, com_bad, com_close, com_end}
-use Rattle.text.proofs.Spans.{low_of}
-use Rattle.text.specs.SpansCode.{is_plain}
+use Rattle.shape.proofs.Run.{at_end}
+use Rattle.shape.proofs.Steps.{handed_on, past_from, com_dash, com_dash_2, com_more, com_close}
+use Rattle.shape.specs.MachineCode.{comment, text}
 use mathlib.Core.Path.{sym, ◌∙◌}
 use native.Mathlib.Omega.{arith}
+use Rattle.xml.proofs.comments.comment_text.Goals.{else-next-file-via-then-next-file+else-file-next-eq45, else-next-file-via-else-next-file}
 use Rattle.xml.proofs.comments.comment_text.Goals as goal
 
-pub returns-then-dashed : goal.returns-then-dashed
-returns-then-dashed c = let s = c.args.file.now in let l = c.loop-here in record { run = λ z. sym (l.invariant.1 z) ∙ com_dash_2 s z l.here c.loop-here-test.true l.dashed c.if-dashed.true c.if-b-eq45.true ∙ (com_close s (l.here + 1) c.expect.result c.expect.ensures).run z; past = past_from s _ (l.here + 1) c.expect.result (omega arith) c.expect.ensures.past }
+pub returns-in_err-next : goal.returns-in_err-next
+returns-in_err-next c = let y = com_dash {i = c.loop-here.here} c.plain_end-end.ensures c.in_err-next.ensures in rw (handed_on c.from_residual.result c.from_residual.ensures.1) (record { run = λ z. sym (c.loop-here.invariant.1 z) ∙ y.run z; past = tt })
 
-pub loop-here-preserved-then-b-eq45 : goal.loop-here-preserved-then-b-eq45
-loop-here-preserved-then-b-eq45 c = let s = c.args.file.now in let l = c.loop-here in (omega arith, λ z. sym (com_dash s z l.here c.loop-here-test.true l.dashed c.if-dashed.false c.if-b-eq45.true) ∙ l.invariant.1 z)
+pub returns-then-file-next-eq45 : goal.returns-then-file-next-eq45
+returns-then-file-next-eq45 c = let s = c.args.file.now in let n = c.in_ok-next.next in let y = com_dash {i = c.loop-here.here} c.plain_end-end.ensures c.in_ok-next.ensures in record { run = λ z. sym (c.loop-here.invariant.1 z) ∙ y.run z ∙ com_dash_2 s z n c.if-next-file.true c.if-file-next-eq45.true ∙ (com_close c.expect-then-file-next-eq45.ensures).run z; past = past_from s _ (n + 1) c.expect-then-file-next-eq45.result (omega (arith, c.loop-here.invariant.0, y.past.0)) c.expect-then-file-next-eq45.ensures.past }
 
 pub loop-here-smaller : goal.loop-here-smaller
-loop-here-smaller c = let h = low_of is_plain c.args.file.now (c.loop-here.here + 1) c.plain_end-here.result c.plain_end-here.ensures in omega arith
+loop-here-smaller c = let y = com_dash {i = c.loop-here.here} c.plain_end-end.ensures c.in_ok-next.ensures in omega (arith, y.past.0, y.past.1)
 
 pub loop-here-preserved : goal.loop-here-preserved
-loop-here-preserved c = let s = c.args.file.now in let l = c.loop-here in let k = c.plain_end-here.result in let e = c.plain_end-here.ensures in (let h = low_of is_plain s (l.here + 1) k e in omega arith, λ z. sym (com_any s z l.here c.loop-here-test.true l.dashed c.if-b-eq45.false (sym c.is_any.ensures ∙ c.if-is_any.true) ∙ com_plain s z (l.here + 1) k e) ∙ l.invariant.1 z)
-
-pub returns-else-is_any : goal.returns-else-is_any
-returns-else-is_any c = let s = c.args.file.now in let l = c.loop-here in record { run = λ z. sym (l.invariant.1 z) ∙ com_bad s z l.here c.loop-here-test.true l.dashed c.if-b-eq45.false (sym c.is_any.ensures ∙ c.if-is_any.false); past = tt }
+loop-here-preserved c = let y = com_dash {i = c.loop-here.here} c.plain_end-end.ensures c.in_ok-next.ensures in (omega (arith, c.loop-here.invariant.0, y.past.0), λ z. sym (y.run z ∙ com_more c.args.file.now z c.in_ok-next.next (λ h. elim c.else-next-file.branch [ else-next-file-via-then-next-file+else-file-next-eq45 w ↦ w.if-file-next-eq45.false | else-next-file-via-else-next-file w ↦ absurd (omega (arith, h, w.if-next-file.false)) ])) ∙ c.loop-here.invariant.1 z)
 
 pub returns : goal.returns
-returns c = let l = c.loop-here in record { run = λ z. sym (l.invariant.1 z) ∙ com_end c.args.file.now z l.here c.loop-here-test.false l.dashed; past = tt }
+returns c = record { run = λ z. sym (c.loop-here.invariant.1 z) ∙ at_end (comment text z) c.args.file.now c.loop-here.here c.loop-here-test.false; past = tt }

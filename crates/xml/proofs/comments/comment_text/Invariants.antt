@@ -1,13 +1,12 @@
--- `xml::comments::comment_text` meets its contract. The loop's invariant: from here, behind a dash or not, the text goes on as from the comment's start.
+-- `xml::comments::comment_text` meets its contract. The loop's invariant: from here the text goes on as from the comment's start.
 use Prim.Native.Nat.{◌-◌, ◌≤◌}
-use Rattle.shape.proofs.Steps.{part}
 use Rattle.shape.specs.MachineCode.{comment, Zone, text, at}
 use lib.ListN.{length}
 use mathlib.Core.Path.{◌≡◌}
 use Rattle.xml.proofs.comments.comment_text.Given as goal
 
 abbrev pub invariant-loop-here : goal.invariant-loop-here
-invariant-loop-here l = (l.from ≤ l.here) × ((z : Zone) → at (comment (part l.dashed) z) l.file l.here ≡ at (comment text z) l.file l.from)
+invariant-loop-here l = (l.from ≤ l.here) × ((z : Zone) → at (comment text z) l.file l.here ≡ at (comment text z) l.file l.from)
 
 abbrev pub decreases-loop-here : goal.decreases-loop-here
 decreases-loop-here l = length l.file - l.here

@@ -3,4 +3,4 @@ use Rattle.shape.proofs.Tags.{equals_reads}
 use Rattle.xml.proofs.tags.equals.Goals as goal
 
 pub returns : goal.returns
-returns c = equals_reads c.args.file.now c.args.from c.name_end-end.result c.blanks_end-sign.result c.expect.result c.name_end-end.ensures c.blanks_end-sign.ensures c.expect.ensures
+returns c = equals_reads c.name_end-end.ensures c.blanks_end-sign.ensures c.expect.ensures

@@ -3,8 +3,8 @@ use Rattle.shape.proofs.Steps.{reads_then, reads_bad}
 use Rattle.shape.proofs.Tags.{quote_reads, value_reads}
 use Rattle.xml.proofs.tags.quoted.Goals as goal
 
-pub returns-in-At : goal.returns-in-At
-returns-in-At c = let s = c.args.file.now in reads_then s c.args.from c.expect.result (quote_reads s c.args.from c.blanks_end-quote.result c.expect.result c.blanks_end-quote.ensures c.expect.ensures) c.in-At.is (value_reads s c.in-At.value c.value_end-end.result c.expect-in-At.result c.value_end-end.ensures c.expect-in-At.ensures)
+pub returns-in_err-value : goal.returns-in_err-value
+returns-in_err-value c = reads_bad (quote_reads c.blanks_end-quote.ensures c.in_err-value.ensures) c.from_residual.ensures.1
 
-pub returns-in-Bad : goal.returns-in-Bad
-returns-in-Bad c = let s = c.args.file.now in reads_bad s c.args.from c.expect.result (quote_reads s c.args.from c.blanks_end-quote.result c.expect.result c.blanks_end-quote.ensures c.expect.ensures) c.in-Bad.is
+pub returns : goal.returns
+returns c = reads_then (quote_reads c.blanks_end-quote.ensures c.in_ok-value.ensures) (value_reads c.value_end-end.ensures c.expect-2.ensures)

@@ -1,22 +1,14 @@
-use Rattle.shape.proofs.Run.{at_end}
-use Rattle.shape.proofs.Tags.{name_step, name_dead, name_over}
-use Rattle.shape.specs.ReadsCode.{closing_tag}
-use lib.ListN.{drop}
-use mathlib.Core.Path.{refl, sym, ◌∙◌}
+use Rattle.shape.proofs.Steps.{handed_on}
+use Rattle.shape.proofs.Tags.{name_step, name_over}
+use mathlib.Core.Path.{sym, ◌∙◌}
 use native.Mathlib.Omega.{arith}
 use Rattle.xml.proofs.tags.same_name.Goals as goal
 
-pub loop-letter-init : goal.loop-letter-init
-loop-letter-init c = (omega arith, λ k. refl)
-
-pub returns-then-file-here : goal.returns-then-file-here
-returns-then-file-here c = record { run = λ k. sym (c.loop-letter.invariant.1 k) ∙ at_end (closing_tag (drop c.loop-letter.letter c.args.name.now) k) c.args.file.now c.loop-letter.here c.if-file-here.true; from = tt }
+pub returns-in_err-here : goal.returns-in_err-here
+returns-in_err-here c = let l = c.loop-letter in rw (handed_on c.from_residual.result c.from_residual.ensures.1) (record { run = λ k. sym (l.invariant.1 k) ∙ name_step c.args.file.now c.args.name.now k l.letter-index l.here c.loop-letter-test.true c.in_err-here.ensures; from = tt })
 
 pub loop-letter-preserved : goal.loop-letter-preserved
-loop-letter-preserved c = (omega arith, λ k. sym (name_step c.args.file.now c.args.name.now k c.loop-letter.letter c.loop-letter.here c.loop-letter-test.true c.if-file-here.false c.if-found-wanted.true) ∙ c.loop-letter.invariant.1 k)
-
-pub returns-else-found-wanted : goal.returns-else-found-wanted
-returns-else-found-wanted c = record { run = λ k. sym (c.loop-letter.invariant.1 k) ∙ name_dead c.args.file.now c.args.name.now k c.loop-letter.letter c.loop-letter.here c.loop-letter-test.true c.if-file-here.false c.if-found-wanted.false; from = tt }
+loop-letter-preserved c = let l = c.loop-letter in (omega (arith, l.invariant.0, c.in_ok-here.ensures.past.0), λ k. sym (name_step c.args.file.now c.args.name.now k l.letter-index l.here c.loop-letter-test.true c.in_ok-here.ensures) ∙ l.invariant.1 k)
 
 pub returns : goal.returns
-returns c = record { run = λ k. sym (c.loop-letter.invariant.1 k) ∙ name_over c.args.file.now c.args.name.now k c.loop-letter.letter c.loop-letter.here c.loop-letter-test.false; from = c.loop-letter.invariant.0 }
+returns c = let l = c.loop-letter in record { run = λ k. sym (l.invariant.1 k) ∙ name_over c.args.file.now c.args.name.now k l.letter-index l.here c.loop-letter-test.false; from = l.invariant.0 }

@@ -1,15 +1,16 @@
 -- `xml::tags::tag_end` meets its contract.
 use Rattle.shape.proofs.Run.{at_end}
+use Rattle.shape.proofs.Steps.{handed_on}
 use Rattle.shape.proofs.Tags.{tag_open, tag_dead, tag_empty, tag_empty_bad}
 use Rattle.shape.specs.MachineCode.{tag, valued}
 use native.Mathlib.Omega.{arith}
 use Rattle.xml.proofs.tags.tag_end.Goals as goal
 
-pub returns-in-At : goal.returns-in-At
-returns-in-At c = tag_empty c.args.file.now c.args.from c.in-At.end c.expect.result c.if-from-file.true c.if-b-eq47.true c.expect.ensures c.in-At.is
+pub returns-in_err-end : goal.returns-in_err-end
+returns-in_err-end c = rw (handed_on c.from_residual.result c.from_residual.ensures.1) (tag_empty_bad c.if-from-file.true c.if-b-eq47.true c.in_err-end.ensures)
 
-pub returns-in-Bad : goal.returns-in-Bad
-returns-in-Bad c = tag_empty_bad c.args.file.now c.args.from c.in-Bad.p c.expect.result c.if-from-file.true c.if-b-eq47.true c.expect.ensures c.in-Bad.is
+pub returns-then-b-eq47 : goal.returns-then-b-eq47
+returns-then-b-eq47 c = tag_empty c.if-from-file.true c.if-b-eq47.true c.in_ok-end.ensures
 
 pub returns-then-b-eq62 : goal.returns-then-b-eq62
 returns-then-b-eq62 c = record { run = λ b x. tag_open c.args.file.now x c.args.from c.if-from-file.true c.if-b-eq62.true; past = omega arith }

@@ -1,9 +1,0 @@
--- `find_text` touches no byte out of range, and answers an offset of the text.
-use Rattle.std.proofs.Common.{◌-◌, ◌≤◌, length}
-use Rattle.convert_cases.proofs.find_text.Given as goal
-
-abbrev pub invariant-loop-i : goal.invariant-loop-i
-invariant-loop-i g l = l.i ≤ length l.s
-
-abbrev pub decreases-loop-i : goal.decreases-loop-i
-decreases-loop-i g l = length l.s - l.i

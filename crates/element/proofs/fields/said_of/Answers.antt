@@ -1,8 +1,0 @@
--- `element::fields::said_of` meets its contract.
-use Rattle.element.proofs.fields.said_of.Goals as goal
-
-pub returns-in-Good : goal.returns-in-Good
-returns-in-Good c = rw c.in-Good.is
-
-pub returns-in-Refused : goal.returns-in-Refused
-returns-in-Refused c = rw c.in-Refused.is

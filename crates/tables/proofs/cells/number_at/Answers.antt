@@ -1,7 +1,0 @@
--- `tables::cells::number_at` meets its contract.
-use Rattle.document.specs.EntriesCode.{entry_from}
-use Rattle.tables.proofs.cells.number_at.Goals as goal
-
-pub returns : goal.returns
-unfolding entry_from
-returns c = c.word_in.ensures

@@ -1,9 +1,0 @@
--- `tables::cells::number_in` meets its contract: a row has 27 words, or none.
-use Prim.Native.Nat.{◌+◌}
-use native.Mathlib.Omega.{arith}
-use lib.ListN.{drop}
-use Rattle.tables.proofs.RowsTurns.{row_past}
-use Rattle.tables.proofs.cells.number_in.Goals as goal
-
-pub returns-else-attribute-lt-ATTRIBUTES : goal.returns-else-attribute-lt-ATTRIBUTES
-returns-else-attribute-lt-ATTRIBUTES c = row_past (drop c.args.at c.args.words.now) (c.args.attribute + 2) (omega (arith, c.if-attribute-lt-ATTRIBUTES.false))
