@@ -44,20 +44,16 @@ fn case(rt: &impl Print, text: &[u8], names: Spans) -> io::Result<()> {
     say(rt, b"\n")
 }
 
+fn names_of<'a>(file: &'a [u8], starts: &'a [usize], ends: &'a [usize]) -> Spans<'a> {
+    Spans { file, starts, ends }
+}
+
 // a, b, c and a name of 32 letters.
 fn named(rt: &impl Print, text: &[u8]) -> io::Result<()> {
     let file = b"a b c abcdefghijklmnopqrstuvwxyz_01234";
     let starts = [0usize, 2, 4, 6];
     let ends = [1usize, 3, 5, 38];
-    case(
-        rt,
-        text,
-        Spans {
-            file,
-            starts: &starts,
-            ends: &ends,
-        },
-    )
+    case(rt, text, names_of(file, &starts, &ends))
 }
 
 // a twice, and a name that is an operator.
@@ -65,15 +61,7 @@ fn twice(rt: &impl Print, text: &[u8]) -> io::Result<()> {
     let file = b"a AND";
     let starts = [0usize, 0, 2];
     let ends = [1usize, 1, 5];
-    case(
-        rt,
-        text,
-        Spans {
-            file,
-            starts: &starts,
-            ends: &ends,
-        },
-    )
+    case(rt, text, names_of(file, &starts, &ends))
 }
 
 // Names cut at the end of the file, ends before starts, more starts than ends.
@@ -81,15 +69,7 @@ fn cut(rt: &impl Print, text: &[u8]) -> io::Result<()> {
     let file = b"abc";
     let starts = [0usize, 1, 2, 9, 0];
     let ends = [1usize, 99, 1, 12];
-    case(
-        rt,
-        text,
-        Spans {
-            file,
-            starts: &starts,
-            ends: &ends,
-        },
-    )
+    case(rt, text, names_of(file, &starts, &ends))
 }
 
 // 33 names: w is the last and the one at `from`, the others are v.
@@ -103,15 +83,7 @@ fn many(rt: &impl Print, text: &[u8], from: usize) -> io::Result<()>
     ends[32] = 2;
     starts[from] = 1;
     ends[from] = 2;
-    case(
-        rt,
-        text,
-        Spans {
-            file,
-            starts: &starts,
-            ends: &ends,
-        },
-    )
+    case(rt, text, names_of(file, &starts, &ends))
 }
 
 fn show_case(rt: &impl Print, kind: u8, text: &[u8]) -> io::Result<()> {
