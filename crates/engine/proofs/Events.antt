@@ -17,6 +17,7 @@ use Rattle.engine.proofs.RowsLaws.{few_rows}
 use Rattle.event_rules.specs.declared.Event.{Event}
 use Rattle.event_rules.specs.declared.Event.TheVariants.{Frame as frame, Tick as tick}
 use Rattle.event_rules.specs.declared.Logging.{Logging}
+use Rattle.event_rules.specs.declared.Firing.{Firing}
 use Rattle.event_rules.specs.declared.Engine.{Engine}
 use Rattle.event_rules.specs.declared.Counts.{Counts}
 use Rattle.event_rules.specs.declared.Refusal.{Refusal}
@@ -44,7 +45,7 @@ module _ (ws : List ℕ) where
   pub few_triggers : length (triggers_read ws) ≤ 32
   few_triggers = few_rows trigger_size trigger_at 32 (get_or ws 3 0) (drop 6 ws)
 
-  pub fires_from : (first : Bool) (e : Event) (ls : List (Option ℕ)) (n : ℕ) (rest : List ℕ) → n ≡ get_or ws 3 0 → rest ≡ drop 6 ws
+  pub fires_from : (first : Bool) (e : Event) (ls : List Firing) (n : ℕ) (rest : List ℕ) → n ≡ get_or ws 3 0 → rest ≡ drop 6 ws
       → fire_all (rows_of trigger_size trigger_at 32 n rest) first e ls 0 none_fired ≡ fire_all (triggers_read ws) first e ls 0 none_fired
   fires_from first e ls n rest b c = rw (b, c)
 
@@ -67,7 +68,7 @@ timely : (u : ℕ) (acted l : Logging) → u ≤ 10000000000000000 → in_time u
 timely u acted l h = rw (le-leb u 10000000000000000 h)
 
 -- ---- steps 5 to 7
-module _ (p : Plan) (s : Running) (ls : List (Option ℕ)) (l : Logging) (e : Event) (few_triggers : length p.triggers ≤ 32)
+module _ (p : Plan) (s : Running) (ls : List Firing) (l : Logging) (e : Event) (few_triggers : length p.triggers ≤ 32)
     (few_statements : length p.statements ≤ 16)
     (many_truths : length s.truth ≡ 16) (many_fired : length ls ≡ 32)
     (fired : Fired) (fires : fired ≡ fire_all p.triggers (not s.started) e ls 0 none_fired) where
@@ -110,7 +111,7 @@ module _ (p : Plan) (s : Running) (ls : List (Option ℕ)) (l : Logging) (e : Ev
     module _ (truth : List Bool) (there : ev ≡ Some truth) (u : ℕ) (eu : u ≡ time_of e) (acts : Logging)
         (early : time_of e ≤ 10000000000000000)
         (e0 : acts ≡ in_time u (act_risen (map statement_of p.statements) u s.truth truth 0 l) l)
-        (after : List (Option ℕ)) (keeps : after ≡ kept fired.fires u ls) where
+        (after : List Firing) (keeps : after ≡ kept fired.fires u ls) where
       acts_is : (now : List Bool) → truth ≡ now ++ drop (length now) s.truth → length now ≡ length p.statements
           → acts ≡ actions (map statement_of p.statements) (time_of e) (zip_with (λ v was. v && not was) now s.truth) l
       acts_is now h n =
@@ -148,7 +149,7 @@ module _ (p : Plan) (s : Running) (ls : List (Option ℕ)) (l : Logging) (e : Ev
           ∙ of_end (evaluated (map statement_of p.statements) now_true) refl ev_is
 
 -- ---- steps 1 to 4
-pub answers_by : (s : Running) (ls : List (Option ℕ)) (l : Logging) (e : Event) (a : Answer) (r : Stepped) → r ≡ answered_at s l e a
+pub answers_by : (s : Running) (ls : List Firing) (l : Logging) (e : Event) (a : Answer) (r : Stepped) → r ≡ answered_at s l e a
     → reached_by r ls ≡ reached (engine_of s ls) (answered (engine_of s ls) l e a)
 answers_by s ls l e a r q = ap (λ (x : Stepped). reached_by x ls) q
 

@@ -2,22 +2,22 @@
 use Prim.Native.Nat.{ℕ, ◌+◌, ◌≤◌}
 use mathlib.Core.Path.{◌≡◌, refl, ap, ◌∙◌}
 use mathlib.Core.List.{List, [], ◌∷◌, ◌++◌, map, zip_with}
-use mathlib.Core.Bool.{Bool, false, ◌||◌, cond}
+use mathlib.Core.Bool.{Bool, true, false, ◌||◌, cond}
 use native.Mathlib.Omega.{arith}
 use lib.ListN.{length, drop, replicate, length-append}
 use lib.Seq.{get_or_at, set_at, append_snoc}
 use Rattle.records.specs.declared.Trigger.{Trigger}
-use Rattle.std.proofs.Common.{Option, None, Some}
 use Rattle.event_rules.specs.declared.Event.{Event}
+use Rattle.event_rules.specs.declared.Firing.{Firing}
 use Rattle.event_rules.specs.Rules.{time_of, fires, lasts, states, firings}
-use Rattle.engine.specs.TriggersCode.{fire_one, fire_all, kept}
+use Rattle.engine.specs.TriggersCode.{never, fire_one, fire_all, kept}
 
 module _ (first : Bool) (e : Event) where
   -- which triggers fire
   unfoldable pub hits : List Trigger → List Bool
   hits ts = map (λ t. fires first e t.cause) ts
 
-  one_fired : (t : Trigger) (a : List (Option ℕ)) (l : Option ℕ) (ls : List (Option ℕ))
+  one_fired : (t : Trigger) (a : List Firing) (l : Firing) (ls : List Firing)
       (b : List Bool) (h : Bool) (hs : List Bool) (c : List Bool)
       (s : Bool) (ss : List Bool) (i : ℕ)
       → length a ≡ i → length b ≡ i → length c ≡ i
@@ -28,9 +28,9 @@ module _ (first : Bool) (e : Event) where
             ++ ((fires first e t.cause || lasts (time_of e) l t.timeout) ∷ ss);
       }
   unfolding fire_one
-  one_fired t a l ls b h hs c s ss i ha hb hc = rw (get_or_at a l ls None i ha, set_at b h hs _ i hb, set_at c s ss _ i hc)
+  one_fired t a l ls b h hs c s ss i ha hb hc = rw (get_or_at a l ls never i ha, set_at b h hs _ i hb, set_at c s ss _ i hc)
 
-  pub all_fired : (ts : List Trigger) (a ls : List (Option ℕ)) (b hs c ss : List Bool) (i : ℕ) → length a ≡ i → length b ≡ i → length c ≡ i
+  pub all_fired : (ts : List Trigger) (a ls : List Firing) (b hs c ss : List Bool) (i : ℕ) → length a ≡ i → length b ≡ i → length c ≡ i
       → length ts ≤ length ls → length ts ≤ length hs → length ts ≤ length ss
       → fire_all ts first e (a ++ ls) i (record { fires = b ++ hs; states = c ++ ss })
       ≡ record { fires = b ++ (hits ts ++ drop (length ts) hs); states = c ++ (states ts first e ls ++ drop (length ts) ss) }
@@ -57,15 +57,15 @@ module _ (first : Bool) (e : Event) where
             (fires first e t.cause || lasts (time_of e) l t.timeout) (zip_with _ ts ls ++ drop (length ts) ss),
       ) refl))
 
-  none_kept : (n u : ℕ) (ls : List (Option ℕ)) → length ls ≡ n → kept (replicate n false) u ls ≡ ls
+  none_kept : (n u : ℕ) (ls : List Firing) → length ls ≡ n → kept (replicate n false) u ls ≡ ls
   unfolding kept zip_with
   none_kept n u [] h = rw (← h) refl
-  none_kept n u (l ∷ ls) h = rw (← h) (ap (λ (x : List (Option ℕ)). l ∷ x) (none_kept (length ls) u ls refl))
+  none_kept n u (l ∷ ls) h = rw (← h) (ap (λ (x : List Firing). l ∷ x) (none_kept (length ls) u ls refl))
 
-  pub all_kept : (ts : List Trigger) (n : ℕ) (ls : List (Option ℕ)) → length ls ≡ length ts + n
+  pub all_kept : (ts : List Trigger) (n : ℕ) (ls : List Firing) → length ls ≡ length ts + n
       → kept (hits ts ++ replicate n false) (time_of e) ls ≡ firings ts first e ls
   unfolding kept hits firings zip_with
   all_kept [] n ls h = none_kept n (time_of e) ls (omega arith)
   all_kept (t ∷ ts) n [] h = absurd (omega arith)
   all_kept (t ∷ ts) n (l ∷ ls) h =
-      ap (λ (x : List (Option ℕ)). cond (fires first e t.cause) (Some (time_of e)) l ∷ x) (all_kept ts n ls (omega arith))
+      ap (λ (x : List Firing). cond (fires first e t.cause) (record { ever = true; at = time_of e }) l ∷ x) (all_kept ts n ls (omega arith))

@@ -1,5 +1,5 @@
 -- One event as the code goes: the plan that is read off words, and an answer beside the state.
-use Rattle.std.specs.Prelude.{ℕ, List, Bool, true, false, get_or, drop, eqb, ◌≡◌, ⊤, Option}
+use Rattle.std.specs.Prelude.{ℕ, List, Bool, true, false, get_or, drop, eqb, ◌≡◌, ⊤}
 use Rattle.records.specs.Records as plans
 use Rattle.records.specs.RecordsCode.{trigger_size, trigger_at, filter_size, filter_at, statement_size, statement_at}
 use Rattle.records.specs.declared.Trigger.{Trigger}
@@ -10,6 +10,7 @@ use Rattle.loader.specs.declared.Layout.{Layout}
 use Rattle.engine.specs.RowsCode.{rows_of}
 use Rattle.event_rules.specs.declared.Event.{Event}
 use Rattle.event_rules.specs.declared.Event.TheVariants.{Frame as frame, Tick as tick}
+use Rattle.event_rules.specs.declared.Firing.{Firing}
 use Rattle.event_rules.specs.declared.Engine.{Engine}
 use Rattle.event_rules.specs.declared.Counts.{Counts}
 use Rattle.event_rules.specs.declared.Logging.{Logging}
@@ -44,10 +45,10 @@ plan_by ws lay =
     }
 
 -- ---- the state, whose last firings lie elsewhere
-abbrev pub engine_of : Running → List (Option ℕ) → Engine
+abbrev pub engine_of : Running → List Firing → Engine
 engine_of s fired = record { logging = s.logging; fired = fired; truth = s.truth; started = s.started; last = s.last }
 
-abbrev pub outcome_of : Ran → List (Option ℕ) → Outcome
+abbrev pub outcome_of : Ran → List Firing → Outcome
 outcome_of r fired = record { answer = r.answer; engine = engine_of r.state fired; counts = r.counts }
 
 -- ---- one event
@@ -65,7 +66,7 @@ pub record Reached : Type 0 where
   pub answer : Answer
   pub engine : Engine
 
-abbrev pub reached_by : Stepped → List (Option ℕ) → Reached
+abbrev pub reached_by : Stepped → List Firing → Reached
 reached_by r fired = record { answer = r.answer; engine = engine_of r.state fired }
 
 -- an event that goes no further than the filters

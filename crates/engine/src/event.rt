@@ -11,7 +11,7 @@ ghost use Rattle.engine.specs.EventCode.{triggers_read, filters_read, plan_by, e
 use crate::plan_words::PlanWords;
 use crate::triggers::Fired;
 use crate::{filters, statements, triggers};
-use event_rules::{Answer, Counts, Event, Logging, Refusal};
+use event_rules::{Answer, Counts, Event, Firing, Logging, Refusal};
 use steps::{admission, endings};
 
 // The engine's state but for the last firings, which are lent: most of its bytes are theirs, and by value they would be copied at each call.
@@ -78,7 +78,7 @@ fn settle(truth: [bool; 16], acted: Logging, e: Event) -> Stepped
     Stepped { answer, state }
 }
 
-fn fire_triggers(plan: PlanWords, first: bool, e: Event, fired: &[Option<u64>; 32]) -> Fired
+fn fire_triggers(plan: PlanWords, first: bool, e: Event, fired: &[Firing; 32]) -> Fired
     ensures { (result ≡ fire_all (triggers_read plan.entry.words.now) first e fired.now 0 none_fired) × (length fired.now ≡ 32) }
 {
     let count = plan.trigger_count();
@@ -91,7 +91,7 @@ fn trigger_event(
     s: Running,
     l: Logging,
     e: Event,
-    last_fired: &mut [Option<u64>; 32],
+    last_fired: &mut [Firing; 32],
 ) -> Stepped
     requires { time_of e ≤ 10000000000000000 }
     ensures { reached_by result last_fired.new ≡ reached (engine_of s last_fired.old) (triggered (config_of (plan_by plan.entry.words.now plan.entry.lay)) (engine_of s last_fired.old) l e) }
@@ -123,7 +123,7 @@ fn is_stopped(plan: PlanWords, e: Event) -> bool
 }
 
 // Steps 1 to 7.
-fn process_event(plan: PlanWords, s: Running, e: Event, fired: &mut [Option<u64>; 32]) -> Stepped
+fn process_event(plan: PlanWords, s: Running, e: Event, fired: &mut [Firing; 32]) -> Stepped
     requires { time_of e ≤ 10000000000000000 }
     ensures { reached_by result fired.new ≡ reached (engine_of s fired.old) (process (config_of (plan_by plan.entry.words.now plan.entry.lay)) (engine_of s fired.old) e) }
 {
@@ -168,13 +168,7 @@ fn count_event(k: Counts, e: Event, a: Answer) -> Counts
 }
 
 // One event.
-pub fn run_event(
-    plan: PlanWords,
-    s: Running,
-    k: Counts,
-    e: Event,
-    fired: &mut [Option<u64>; 32],
-) -> Ran
+pub fn run_event(plan: PlanWords, s: Running, k: Counts, e: Event, fired: &mut [Firing; 32]) -> Ran
     ensures { outcome_of result fired.new ≡ step (config_of (plan_by plan.entry.words.now plan.entry.lay)) (engine_of s fired.old) k e }
 {
     let refused = admission::refusal_of(plan.channels(), s.last, k, e);

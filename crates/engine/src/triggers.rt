@@ -7,7 +7,7 @@ ghost use Rattle.engine.specs.RowsCode.{rows_of};
 ghost use Rattle.engine.specs.TriggersCode.{turn_of, fire_all, none_fired, kept};
 
 use crate::rows;
-use event_rules::Event;
+use event_rules::{Event, Firing};
 use records::sizes;
 use steps::{matches, timeouts};
 
@@ -26,7 +26,7 @@ struct Turn {
     on: bool,
 }
 
-fn turn_of(rec: &[u32], first: bool, e: Event, last: Option<u64>) -> Turn
+fn turn_of(rec: &[u32], first: bool, e: Event, last: Firing) -> Turn
     ensures { result ≡ turn_of (trigger_at rec.now) first e last }
 {
     let t = records::trigger_at(rec);
@@ -39,7 +39,7 @@ fn turn_of(rec: &[u32], first: bool, e: Event, last: Option<u64>) -> Turn
 }
 
 // How many triggers to fire: none where there are more than last firings.
-fn at_most(count: u32, fired: &[Option<u64>]) -> usize
+fn at_most(count: u32, fired: &[Firing]) -> usize
     ensures { (result ≡ cond (leb count (length fired.now)) count 0) × (result ≤ length fired.now) }
 {
     let n = count as usize;
@@ -53,7 +53,7 @@ pub(crate) fn fire_all(
     count: u32,
     first: bool,
     e: Event,
-    fired: &[Option<u64>; 32],
+    fired: &[Firing; 32],
 ) -> Fired
     ensures { (result ≡ fire_all (rows_of trigger_size trigger_at 32 count triggers.now) first e fired.now 0 none_fired) × (length fired.now ≡ 32) }
 {
@@ -75,12 +75,12 @@ pub(crate) fn fire_all(
 
 // The last firings, once the triggers of `fires` fired at u.
 // By index, not by `iter_mut`: tried, and what such a loop leaves in `fired` stayed open, no proof knows it but for its length.
-pub(crate) fn keep_firings(fires: [bool; 32], u: u64, fired: &mut [Option<u64>; 32])
+pub(crate) fn keep_firings(fires: [bool; 32], u: u64, fired: &mut [Firing; 32])
     ensures { fired.new ≡ kept fires u fired.old }
 {
     for i in 0..32 {
         if fires[i] {
-            fired[i] = Some(u);
+            fired[i] = Firing { ever: true, at: u };
         }
     }
 }

@@ -10,8 +10,7 @@ use Rattle.code.specs.HeightsCode.{sound_code}
 use Rattle.code.proofs.Sound.{value_of_sound}
 use Rattle.records.specs.Records as plans
 use Rattle.loader.specs.Plan.{Plan, statement_in, in_range}
-use Rattle.event_rules.specs.Types.{Event, Refusal, CodeFault, Logging, Engine, Counts, Answer, Outcome}
-use Rattle.event_rules.specs.declared.Answer.TheVariants as answers
+use Rattle.event_rules.specs.Types.{Event, Refusal, Logging, Engine, Counts, Answer, Outcome}
 use Rattle.event_rules.specs.Rules.{Config, Result, gives, faults, states, evaluated, acted, triggered, process}
 use Rattle.event_rules.specs.Calls.{refusal_number, event_refusal, answer_refusal, unless_refused, step, statement_of, config_of, Answers, by_plan, no_plan}
 use Rattle.event_rules.specs.History.{outcomes}
@@ -65,33 +64,35 @@ module _ (p : Plan) (ok : in_range p ≡ true) (en : Engine) where
   pub never_faults : (e : Event) → process (config_of p) en e ≡ faults → ⊥
   never_faults e = process_cases (λ r. r ≡ faults → ⊥) (config_of p) en e (λ l w. gives_not_faults) (triggered_runs e)
 
-  pub never_25 : (k : Counts) (e : Event) → (step (config_of p) en k e).answer ≡ answers.Refused CodeFault → ⊥
+  pub never_25 : (k : Counts) (e : Event) → answer_refusal (step (config_of p) en k e).answer ≡ Some (25, 0) → ⊥
   unfolding step
   never_25 k e = go (event_refusal (config_of p) en k e) refl (process_gives (config_of p) en e) (never_faults e)
     where
       go : (o : Option Refusal) → event_refusal (config_of p) en k e ≡ o → {r : Result} → ProcessGives e r → (r ≡ faults → ⊥)
-          → (unless_refused o en k r).answer ≡ answers.Refused CodeFault → ⊥
-      go None s (given w after) runs q = let z = sym (not_refusal e w) ∙ ap answer_refusal q in cc
+          → answer_refusal (unless_refused o en k r).answer ≡ Some (25, 0) → ⊥
+      go None s (given w after) runs q = let z = sym (not_refusal e w) ∙ q in cc
       go None s fails runs q = runs refl
       go (Some x) s g runs q =
-          let same : x ≡ CodeFault = cc in
-          omega (arith, refusal_below_25 (config_of p) en k e CodeFault (s ∙ ap Some same))
+          let same : ◌≡◌ {A = ℕ × ℕ} (refusal_number x, 0) (25, 0) = cc in
+          omega (arith, refusal_below_25 (config_of p) en k e x s, ap (λ (m : ℕ × ℕ). m.0) same)
 
 -- so no history of such a plan has 25 among its answers
 pub history_never_25 : (p : Plan) → in_range p ≡ true
     → (en : Engine) (k : Counts) (es : List Event) (before : List Outcome) (o : Outcome) (behind : List Outcome)
-    → outcomes (config_of p) en k es ≡ before ++ (o ∷ behind) → o.answer ≡ answers.Refused CodeFault → ⊥
+    → outcomes (config_of p) en k es ≡ before ++ (o ∷ behind) → answer_refusal o.answer ≡ Some (25, 0) → ⊥
 unfolding outcomes
 history_never_25 p ok en k [] [] o behind h q = let z : ◌≡◌ {A = ℕ} 0 1 = cc in omega arith
 history_never_25 p ok en k [] (b ∷ before) o behind h q = let z : ◌≡◌ {A = ℕ} 0 1 = cc in omega arith
 history_never_25 p ok en k (e ∷ es) [] o behind h q =
     let same : step (config_of p) en k e ≡ o = cc in
-    never_25 p ok en k e (ap (λ (x : Outcome). x.answer) same ∙ q)
+    never_25 p ok en k e (ap (λ (x : Outcome). answer_refusal x.answer) same ∙ q)
 history_never_25 p ok en k (e ∷ es) (b ∷ before) o behind h q =
     history_never_25 p ok (step (config_of p) en k e).engine (step (config_of p) en k e).counts es before o behind (cc) q
 
 -- and no event call answers 25
 pub call_never_25 : {ws : List ℕ} {en : Engine} {k : Counts} {e : Event} {o : Outcome} → Answers ws en k e o
-    → o.answer ≡ answers.Refused CodeFault → ⊥
+    → answer_refusal o.answer ≡ Some (25, 0) → ⊥
 call_never_25 {ws} {en} {k} {e} (by_plan p) q = never_25 p.plan p.is_in_range en k e q
-call_never_25 (no_plan none) q = cc
+call_never_25 (no_plan none) q =
+    let z : ◌≡◌ {A = ℕ × ℕ} (20, 0) (25, 0) = cc in
+    omega (arith, ap (λ (m : ℕ × ℕ). m.0) z)

@@ -4,3 +4,4 @@ pub mod Faults
 pub mod Checks
 pub mod HistoryLaws
 pub mod Filters
+pub mod Numbers

@@ -4,14 +4,14 @@ use Rattle.code.specs.Code.{value_on}
 use Rattle.records.specs.Records as plans
 use Rattle.records.specs.Records.{id_top, dlc_top}
 use Rattle.loader.specs.Plan.{Plan, PlanOf}
-use Rattle.event_rules.specs.Types.{Filter, Frame, Event, frame, tick, Off, Engine, Counts, Refusal, NoPlan, NoChannel, BadTime, OutOfRange, CountsFull, CodeFault, Answer, Outcome}
+use Rattle.event_rules.specs.Types.{Filter, Frame, Event, frame, tick, Off, Engine, Counts, Refusal, NoPlan, NoChannel, BadTime, OutOfRange, CountsFull, CodeFault, Other, Answer, Outcome}
 use Rattle.event_rules.specs.declared.Answer.TheVariants.{Recorded, Idle, Stopped, Halted, Ticked, Refused}
 use Rattle.event_rules.specs.Rules.{Statement, MessageFilter, Config, Result, gives, faults, process}
 
 -- Fresh: Off, nothing fired, all expressions false, counts 0, last time 0.
 abbrev pub fresh : Engine
 fresh =
-    record { logging = Off; fired = replicate 32 None; truth = replicate 16 false; started = false; last = 0 }
+    record { logging = Off; fired = replicate 32 (record { ever = false; at = 0 }); truth = replicate 16 false; started = false; last = 0 }
 
 abbrev pub no_counts : Counts
 no_counts = record { recorded = 0; idle = 0; stopped = 0; halted = 0 }
@@ -30,7 +30,14 @@ full k = leb 4294967295 (k.recorded + k.idle + k.stopped + k.halted)
 
 -- the paper's number for each refusal
 abbrev pub refusal_number : Refusal → ℕ
-refusal_number r = elim r [ NoPlan ↦ 20 | NoChannel ↦ 21 | BadTime ↦ 22 | OutOfRange ↦ 23 | CountsFull ↦ 24 | CodeFault ↦ 25 ]
+refusal_number r = elim r [ NoPlan ↦ 20 | NoChannel ↦ 21 | BadTime ↦ 22 | OutOfRange ↦ 23 | CountsFull ↦ 24 | CodeFault ↦ 25 | Other n ↦ n ]
+
+-- the refusal of a number: 20 to 25 are the named ones, any other is Other
+abbrev pub refusal_at : ℕ → Refusal
+refusal_at n =
+    cond (eqb n 20) NoPlan
+    (cond (eqb n 21) NoChannel
+    (cond (eqb n 22) BadTime (cond (eqb n 23) OutOfRange (cond (eqb n 24) CountsFull (cond (eqb n 25) CodeFault (Other n))))))
 
 -- 21 to 24 in number order, for ticks only 22
 abbrev pub frame_refusal : ℕ → ℕ → Counts → Frame → Option Refusal

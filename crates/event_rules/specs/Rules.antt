@@ -3,7 +3,7 @@
 use Rattle.std.specs.Prelude.{ℕ, ◌+◌, ◌*◌, Bool, true, false, not, ◌&&◌, ◌||◌, cond, length, drop, leb, ltb, eqb, Option, None, Some}
 use mathlib.Core.List.{List, [], ◌∷◌, ◌++◌, zip_with}
 use Rattle.std.specs.Bool.{beq}
-use Rattle.event_rules.specs.Types.{Cause, Id, Length, Error, Startup, Timeout, Forever, Ms, Trigger, Effect, Pass, Stop, Action, StartLog, StopLog, StopLogCompletely, Frame, Event, frame, tick, Logging, Off, On, Ending, EndingCompletely, Halted, Engine, Answer}
+use Rattle.event_rules.specs.Types.{Cause, Id, Length, Error, Startup, Timeout, Forever, Ms, Trigger, Effect, Pass, Stop, Action, StartLog, StopLog, StopLogCompletely, Frame, Event, frame, tick, Logging, Off, On, Ending, EndingCompletely, Halted, Firing, Engine, Answer}
 use Rattle.event_rules.specs.declared.Answer.TheVariants as answers
 use Rattle.event_rules.specs.declared.Answer.TheVariants.{Recorded, Idle}
 
@@ -94,17 +94,16 @@ fires first (frame f) (Length channel lower upper) = not f.error && eqb channel 
 fires first (frame f) (Error channel) = f.error && eqb channel f.channel
 
 -- a later event at u, if its last firing t has u < t + 1000 x timeout, or the timeout is -1
-abbrev pub lasts : ℕ → Option ℕ → Timeout → Bool
-lasts u None timeout = false
-lasts u (Some t) Forever = true
-lasts u (Some t) (Ms timeout) = ltb u (t + 1000 * timeout)
+abbrev pub lasts : ℕ → Firing → Timeout → Bool
+lasts u l Forever = l.ever
+lasts u l (Ms timeout) = l.ever && ltb u (l.at + 1000 * timeout)
 
 -- A trigger is true during the event that fires it, and at such a later event; `ls` are the last firings.
-unfoldable pub states : List Trigger → Bool → Event → List (Option ℕ) → List Bool
+unfoldable pub states : List Trigger → Bool → Event → List Firing → List Bool
 states ts first e ls = zip_with (λ t l. fires first e t.cause || lasts (time_of e) l t.timeout) ts ls
 
-unfoldable pub firings : List Trigger → Bool → Event → List (Option ℕ) → List (Option ℕ)
-firings ts first e ls = zip_with (λ t l. cond (fires first e t.cause) (Some (time_of e)) l) ts ls
+unfoldable pub firings : List Trigger → Bool → Event → List Firing → List Firing
+firings ts first e ls = zip_with (λ t l. cond (fires first e t.cause) (record { ever = true; at = time_of e }) l) ts ls
     ++ drop (length ts) ls
 
 -- 6. All expressions are evaluated.

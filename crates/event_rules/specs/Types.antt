@@ -14,9 +14,10 @@ pub use Rattle.event_rules.specs.declared.Event.{Event}
 pub use Rattle.event_rules.specs.declared.Event.TheVariants.{Frame as frame, Tick as tick}
 pub use Rattle.event_rules.specs.declared.Logging.{Logging}
 pub use Rattle.event_rules.specs.declared.Logging.TheVariants.{Off, On, Ending, EndingCompletely, Halted}
+pub use Rattle.event_rules.specs.declared.Firing.{Firing}
 pub use Rattle.event_rules.specs.declared.Engine.{Engine}
 pub use Rattle.event_rules.specs.declared.Counts.{Counts}
 pub use Rattle.event_rules.specs.declared.Refusal.{Refusal}
-pub use Rattle.event_rules.specs.declared.Refusal.TheVariants.{NoPlan, NoChannel, BadTime, OutOfRange, CountsFull, CodeFault}
+pub use Rattle.event_rules.specs.declared.Refusal.TheVariants.{NoPlan, NoChannel, BadTime, OutOfRange, CountsFull, CodeFault, Other}
 pub use Rattle.event_rules.specs.declared.Answer.{Answer}
 pub use Rattle.event_rules.specs.declared.Outcome.{Outcome}

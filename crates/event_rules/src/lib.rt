@@ -8,7 +8,7 @@
 
 ghost use Rattle.std.specs.Prelude.{◌≡◌};
 ghost use Rattle.event_rules.specs.Rules.{time_of};
-ghost use Rattle.event_rules.specs.Calls.{refusal_number};
+ghost use Rattle.event_rules.specs.Calls.{refusal_number, refusal_at};
 
 use std::fmt;
 
@@ -64,12 +64,19 @@ impl Event {
     }
 }
 
-// The engine's state: when each trigger fired last, if it ever did; last truths by statement; whether an event came to the triggers; the last accepted
-// time.
+// A trigger's last firing, if it ever fired.
+// No Option: the public calls take any engine, also one in which a trigger that never fired has a time, and give it back (docs/DESIGN-PASS.md).
+#[derive(Clone, Copy)]
+pub struct Firing {
+    pub ever: bool,
+    pub at: u64,
+}
+
+// The engine's state: last firings by trigger, last truths by statement, whether an event came to the triggers, the last accepted time.
 #[derive(Clone, Copy)]
 pub struct Engine {
     pub logging: Logging,
-    pub fired: [Option<u64>; 32],
+    pub fired: [Firing; 32],
     pub truth: [bool; 16],
     pub started: bool,
     pub last: u64,
@@ -98,24 +105,51 @@ impl fmt::Display for Counts {
 #[derive(Clone, Copy)]
 pub enum Refusal {
     // the words are no plan
-    NoPlan = 20,
+    NoPlan,
     // the frame's channel is not below the plan's number of channels
-    NoChannel = 21,
+    NoChannel,
     // a time below the last accepted one, or above 10^16
-    BadTime = 22,
+    BadTime,
     // identifier or dlc out of range
-    OutOfRange = 23,
+    OutOfRange,
     // the four counts have no room
-    CountsFull = 24,
+    CountsFull,
     // a fault in expression code
-    CodeFault = 25,
+    CodeFault,
+    // any other number: no rule of an event gives it, `steps::admission::refuse` takes any number
+    Other(u32),
 }
 
 impl Refusal {
-    pub fn number(self) -> u8
+    pub fn number(self) -> u32
         ensures { result ≡ refusal_number self }
     {
-        self as u8
+        match self {
+            Refusal::NoPlan => 20,
+            Refusal::NoChannel => 21,
+            Refusal::BadTime => 22,
+            Refusal::OutOfRange => 23,
+            Refusal::CountsFull => 24,
+            Refusal::CodeFault => 25,
+            Refusal::Other(n) => n,
+        }
+    }
+}
+
+// The refusal that has the number.
+impl From<u32> for Refusal {
+    ghost from_gives = { λ n r. r ≡ refusal_at n };
+
+    fn from(n: u32) -> Refusal {
+        match n {
+            20 => Refusal::NoPlan,
+            21 => Refusal::NoChannel,
+            22 => Refusal::BadTime,
+            23 => Refusal::OutOfRange,
+            24 => Refusal::CountsFull,
+            25 => Refusal::CodeFault,
+            other => Refusal::Other(other),
+        }
     }
 }
 

@@ -17,7 +17,7 @@ pub fn steamfiddle_load(plan: &[u32]) -> u32
 {
     match loader::load(plan) {
         Some(_) => 0,
-        None => u32::from(Refusal::NoPlan.number()),
+        None => Refusal::NoPlan.number(),
     }
 }
 

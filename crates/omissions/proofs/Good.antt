@@ -21,6 +21,7 @@ use Rattle.document.specs.DocumentCode.{IndexedIn}
 use Rattle.document.proofs.Stood.{All}
 use Rattle.tables.specs.declared.rows.Told as tables
 use Rattle.tables.specs.RowsCode.{told}
+use Rattle.tables.specs.TablesCode.{tabled}
 use Rattle.tables.proofs.Entries.{all_nested}
 use Rattle.tables.proofs.Laws.{reads_well}
 use Rattle.tables.proofs.Nested.{Named, all_named_lem}
@@ -109,6 +110,7 @@ module _ (f ws : List ℕ) (m : Meets f ws) (es : List Entry) (e : es ≡ map en
   ks = elements f ws m
 
   all_is : t.head.all ≡ logs_all ks
+  unfolding tabled
   all_is =
       ap (λ (y : tables.Told). y.head.all) (q ∙ ap (told f) e)
       ∙ (reads_well f m.document m.spells (faultless f ws m)).log_all_lem

@@ -19,7 +19,7 @@ use Rattle.converter_c.specs.Calls.{packed, Converting, converting}
 use Rattle.converter_c.proofs.Packing.{words_told, refused_told, one_converting}
 use Rattle.event_rules.specs.declared.Event.{Event}
 use Rattle.event_rules.specs.declared.Refusal.{Refusal}
-use Rattle.event_rules.specs.declared.Refusal.TheVariants.{NoPlan, CodeFault}
+use Rattle.event_rules.specs.declared.Refusal.TheVariants.{NoPlan}
 use Rattle.event_rules.specs.declared.Engine.{Engine}
 use Rattle.event_rules.specs.declared.Counts.{Counts}
 use Rattle.event_rules.specs.declared.Answer.TheVariants as answers
@@ -113,12 +113,12 @@ same_number r n g =
 
 module _ (c : Config) (en : Engine) (k : Counts) (e : Event) where
   -- the number of the answer is that of the rules' refusal, but for 25
-  step_refusal : (n : ℕ) → ((step c en k e).answer ≡ answers.Refused CodeFault → ⊥) → answer_refusal (step c en k e).answer ≡ Some (n, 0)
+  step_refusal : (n : ℕ) → (answer_refusal (step c en k e).answer ≡ Some (25, 0) → ⊥) → answer_refusal (step c en k e).answer ≡ Some (n, 0)
       → (r : Refusal) × (event_refusal c en k e ≡ Some r) × (n ≡ refusal_number r)
   unfolding step
   step_refusal n never q = go (event_refusal c en k e) (process_gives c en e) never q
     where
-      go : (o : Option Refusal) {x : Result} → ProcessGives e x → ((unless_refused o en k x).answer ≡ answers.Refused CodeFault → ⊥)
+      go : (o : Option Refusal) {x : Result} → ProcessGives e x → (answer_refusal (unless_refused o en k x).answer ≡ Some (25, 0) → ⊥)
           → answer_refusal (unless_refused o en k x).answer ≡ Some (n, 0) → (r : Refusal) × (o ≡ Some r) × (n ≡ refusal_number r)
       go None (given w after) h g = let z = sym (not_refusal e w) ∙ g in cc
       go None fails h g = absurd (h refl)

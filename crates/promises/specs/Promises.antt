@@ -15,7 +15,6 @@ use Rattle.loader.specs.Plan.{PlanOf, Loads, load_refusal}
 use Rattle.file_rules.specs.Element.{ReadsWhole, text_of, channel_of, good_of}
 use Rattle.file_rules.specs.Document.{known_elements}
 use Rattle.std.specs.Prelude.{Ok, Err}
-use Rattle.file_rules.specs.RefusalCode.{refused_at}
 use Rattle.converter.specs.Converter.{Meets, Refuses, Converts, convert_answer, Converted}
 use Rattle.converter_c.specs.Calls.{Converting}
 use Rattle.event_rules.specs.declared.Event.{Event}
@@ -84,7 +83,7 @@ pub record Demand2 : Type 0 where
   pub accepted : (s d : List ℕ) (r : Converted) (out ws : List ℕ) → Converts s d r out → length ws ≤ length d
       → ((r ≡ Ok (length ws)) × (out ≡ ws ++ drop (length ws) d)) ↔ Meets s ws
   pub without_room : (s d : List ℕ) (r : Converted) (out ws : List ℕ) → Converts s d r out → Meets s ws → length d < length ws
-      → r ≡ Err (refused_at 13 (length ws))
+      → r ≡ Err (record { number = 13; place = length ws })
   pub only_then : (s d : List ℕ) (n : ℕ) (out : List ℕ) → Converts s d (Ok n) out → (ws : List ℕ) × Meets s ws × (n ≡ length ws)
   pub one_plan : (s ws vs : List ℕ) → Meets s ws → Meets s vs → ws ≡ vs
   pub one_document : (s : List ℕ) (x y : Node) → WellShaped s x → WellShaped s y → x ≡ y

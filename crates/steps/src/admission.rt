@@ -1,8 +1,8 @@
 // Which events an engine accepts.
 //
-// Promises: `refuse` is a refused call, the others give the refusals 21 to 24 in their order.
-ghost use Rattle.std.specs.Prelude.{◌≡◌};
-ghost use Rattle.event_rules.specs.Calls.{late, out_of_range, full, frame_refusal, refusal_from, refused};
+// Promises: `refuse` is a call refused by any number, the others give the refusals 21 to 24 in their order.
+ghost use Rattle.std.specs.Prelude.{◌≡◌, Some};
+ghost use Rattle.event_rules.specs.Calls.{late, out_of_range, full, frame_refusal, refusal_from, refusal_at, answer_refusal, refused};
 
 use event_rules::{Answer, Counts, Engine, Event, Frame, Outcome, Refusal};
 use records::{DLC_TOP, sizes};
@@ -58,12 +58,14 @@ pub fn refusal_of(channels: u32, last: u64, k: Counts, e: Event) -> Option<Refus
     }
 }
 
-// A refused event changes nothing.
-pub fn refuse(refusal: Refusal, en: Engine, k: Counts) -> Outcome
-    ensures { result ≡ refused refusal en k }
+// A refused event changes nothing. The answer has the number that is given, whatever it is.
+#[tactic(auto, using(event_rules::proofs::Numbers::number_kept))]
+pub fn refuse(n: u32, en: Engine, k: Counts) -> Outcome
+    ensures outcome { result ≡ refused (refusal_at n) en k }
+    ensures number { answer_refusal result.answer ≡ Some (n, 0) }
 {
     Outcome {
-        answer: Answer::Refused(refusal),
+        answer: Answer::Refused(Refusal::from(n)),
         engine: en,
         counts: k,
     }

@@ -2,14 +2,15 @@
 ghost use Rattle.std.specs.Prelude.{◌≡◌};
 ghost use Rattle.event_rules.specs.Calls.{fresh, no_counts};
 
-use event_rules::{Counts, Engine, Logging};
+use event_rules::{Counts, Engine, Firing, Logging};
 
 pub fn fresh_engine() -> Engine
     ensures { result ≡ fresh }
 {
+    let never = Firing { ever: false, at: 0 };
     Engine {
         logging: Logging::Off,
-        fired: [None; 32],
+        fired: [never; 32],
         truth: [false; 16],
         started: false,
         last: 0,

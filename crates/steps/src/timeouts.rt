@@ -2,6 +2,7 @@
 ghost use Rattle.std.specs.Prelude.{◌≡◌, ◌+◌, ◌*◌, ltb};
 ghost use Rattle.event_rules.specs.Rules.{lasts};
 
+use event_rules::Firing;
 use records::Timeout;
 
 // Whether u is before t + 1000 x timeout.
@@ -15,12 +16,12 @@ fn before_end(u: u64, t: u64, timeout: u32) -> bool
 }
 
 // Whether a trigger is still true at u from its last firing.
-pub fn trigger_lasts(timeout: Timeout, last: Option<u64>, u: u64) -> bool
+pub fn trigger_lasts(timeout: Timeout, last: Firing, u: u64) -> bool
     ensures { result ≡ lasts u last timeout }
 {
-    match (last, timeout) {
-        (None, _) => false,
-        (Some(_), Timeout::Forever) => true,
-        (Some(t), Timeout::Ms(ms)) => before_end(u, t, ms),
+    match (last.ever, timeout) {
+        (false, _) => false,
+        (true, Timeout::Forever) => true,
+        (true, Timeout::Ms(ms)) => before_end(u, last.at, ms),
     }
 }

@@ -15,7 +15,7 @@ use Rattle.tables.proofs.Tells.{names_law, head_law}
 use Rattle.tables.proofs.Faults.{fault_law}
 
 pub reads_well : (f : List ℕ) (x : Node) → WellShaped f x → element_faults x ≡ []
-    → Reads f (known_elements x) (told f (map entry_of (known_elements x))) (tabled f (map entry_of (known_elements x)))
+    → Reads f (known_elements x) (tabled f (map entry_of (known_elements x)))
 unfolding tabled told logs_all
 reads_well f x w e =
     let ks = known_elements x in
@@ -25,5 +25,5 @@ reads_well f x w e =
       channels = head.channels;
       log_all_lem = head.all;
       names = names_law f ks fits (few_triggers x e);
-      answer = rw (fault_law f ks fits (few_triggers x e) (few_parameters x e));
+      fault = fault_law f ks fits (few_triggers x e) (few_parameters x e);
     }

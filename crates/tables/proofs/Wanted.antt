@@ -8,11 +8,11 @@ use Rattle.schema.specs.SchemaCode.{kind_name, kind_of}
 use Rattle.file_rules.specs.Element.{Known, Fault, own_faults}
 use Rattle.file_rules.specs.Reading.{is}
 use Rattle.document.proofs.Stood.{Stood}
-use Rattle.tables.specs.declared.rows.Told.{Told}
-use Rattle.std.specs.Prelude.{Option, Some, None, Result}
+use Rattle.tables.specs.declared.Telling.{Telling}
+use Rattle.std.specs.Prelude.{Option, Some, None}
 use Rattle.file_rules.specs.declared.Refusal.{Refusal}
 use Rattle.file_rules.specs.Tables.{kept, is_in, within, expressions_of, names_of, logs_all, table_faults}
-use Rattle.tables.specs.TablesCode.{names_at, told_unless}
+use Rattle.tables.specs.TablesCode.{names_at}
 use Rattle.file_rules.specs.RefusalCode.{refused_at}
 
 -- a known element without faults, which stands in the file and has the name of a kind
@@ -29,9 +29,9 @@ abbrev pub first_of : List Fault → Option Refusal
 first_of [] = None
 first_of (a ∷ l) = Some (refused_at a.number a.place)
 
--- the tables of the known elements ks, and what is answered of them
-pub record Reads (f : List ℕ) (ks : List Known) (t : Told) (r : Result Told Refusal) : Type 0 where
-  pub channels : t.head.channels ≡ length (kept (is "PARAMETERS") ks)
-  pub log_all_lem : t.head.all ≡ logs_all ks
-  pub names : names_at f t.names ≡ names_of ks
-  pub answer : r ≡ told_unless (first_of (table_faults ks)) t
+-- the tables of the known elements ks
+pub record Reads (f : List ℕ) (ks : List Known) (t : Telling) : Type 0 where
+  pub channels : t.told.head.channels ≡ length (kept (is "PARAMETERS") ks)
+  pub log_all_lem : t.told.head.all ≡ logs_all ks
+  pub names : names_at f t.told.names ≡ names_of ks
+  pub fault : t.fault ≡ first_of (table_faults ks)

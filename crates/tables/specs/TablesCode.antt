@@ -1,5 +1,5 @@
 -- What the functions answer, for every input. Code-shaped; proofs/Laws.antt ties it to the definitions. Nothing here has to be believed.
-use Rattle.std.specs.Prelude.{ℕ, List, [], ◌∷◌, ◌++◌, Bool, false, not, cond, ◌&&◌, leb, take, Option, Some, None, Result, Ok, Err}
+use Rattle.std.specs.Prelude.{ℕ, List, [], ◌∷◌, ◌++◌, Bool, false, not, cond, ◌&&◌, leb, take, Option, Some, None}
 use Rattle.std.specs.Option.{option_or}
 use Rattle.text.specs.Texts.{same}
 use Rattle.grammar.specs.TokensCode.{names_in}
@@ -11,6 +11,7 @@ use Rattle.tables.specs.declared.rows.Told.{Told}
 use Rattle.tables.specs.RowsCode.{is_under, told}
 use Rattle.file_rules.specs.declared.Refusal.{Refusal}
 use Rattle.file_rules.specs.RefusalCode.{refused_at}
+use Rattle.tables.specs.declared.Telling.{Telling}
 use Rattle.lists.specs.Lists.{any}
 use Rattle.lists.specs.FlagsCode.{lacks_first}
 
@@ -47,10 +48,5 @@ channel_fault h es = first_where (is_beyond h.channels) es
 unfoldable pub table_fault : List ℕ → List Entry → Told → Option Refusal
 table_fault f es t = option_or (name_fault f t.names) (option_or (bus_fault t.head es) (channel_fault t.head es))
 
--- what is told, if nothing is refused
-abbrev pub told_unless : Option Refusal → Told → Result Told Refusal
-told_unless None t = Ok t
-told_unless (Some r) t = Err r
-
-unfoldable pub tabled : List ℕ → List Entry → Result Told Refusal
-tabled f es = told_unless (table_fault f es (told f es)) (told f es)
+unfoldable pub tabled : List ℕ → List Entry → Telling
+tabled f es = record { fault = table_fault f es (told f es); told = told f es }

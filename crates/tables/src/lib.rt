@@ -24,6 +24,13 @@ use file_rules::Refusal;
 use schema::{attributes, kinds};
 use text::texts;
 
+// What a file says, and its first refusal of 9 and 10. It is no `Result`: what the entries say is promised beside a refusal too.
+#[derive(Clone, Copy)]
+pub struct Telling {
+    pub fault: Option<Refusal>,
+    pub told: Told,
+}
+
 // Are two parts of the file the same? Each is cut at the file's end.
 fn is_same(file: &[u8], start: usize, end: usize, from: usize, to: usize) -> bool
     ensures { result ≡ same (drop start (take end file.now)) (drop from (take to file.now)) }
@@ -119,13 +126,12 @@ fn table_fault(file: &[u8], words: &[u32], told: &Told) -> Option<Refusal>
         .or_else(|| channel_fault(head, words))
 }
 
-// What the entries of a file say together, or the first of its refusals 9 and 10.
-pub fn read_tables(file: &[u8], words: &[u32]) -> Result<Told, Refusal>
+// What the entries of a file say together, and the first of its refusals 9 and 10.
+#[tactic(auto, unfolding(crate::specs::TablesCode::tabled))]
+pub fn read_tables(file: &[u8], words: &[u32]) -> Telling
     ensures { result ≡ tabled file.now (entries_in words.now) }
 {
     let told = rows::tell(file, words);
-    match table_fault(file, words, &told) {
-        None => Ok(told),
-        Some(fault) => Err(fault),
-    }
+    let fault = table_fault(file, words, &told);
+    Telling { fault, told }
 }

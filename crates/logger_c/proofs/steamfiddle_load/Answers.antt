@@ -6,4 +6,4 @@ pub returns-in-Some : goal.returns-in-Some
 returns-in-Some c = loading_taken c.load.ensures c.in-Some.is
 
 pub returns-in-None : goal.returns-in-None
-returns-in-None c = rw (c.from.ensures, c.number.ensures) (loading_refused c.load.ensures c.in-None.is)
+returns-in-None c = rw c.number.ensures (loading_refused c.load.ensures c.in-None.is)
