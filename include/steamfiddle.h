@@ -3,7 +3,7 @@
    Two libraries, for x86-64 (x86-64-v2: processors with SSE4.2); `./steamfiddle install DIR` puts them into DIR/lib and this header into DIR/include:
      libsteamfiddle_converter.a   steamfiddle_convert
      libsteamfiddle_logger.a      steamfiddle_load, steamfiddle_replay; nothing in it knows of files
-   Either is linked alone or both together. All they take from the C library is memcpy, memmove and memset.
+   Either is linked alone or both together. All they take from the C library is memcpy, memmove and memset; the logger takes nothing.
 
    For all calls:
    - A pointer is valid for its length and aligned for its type. The proofs are for pointers that are not null. A null pointer with length 0, as
@@ -39,9 +39,9 @@ extern "C" {
 #define STEAMFIDDLE_RECORD_BYTES 32
 
 /* Bytes of stack that a call needs, as measured by bench/stack.c, with some to spare. Loading and replaying are small enough for firmware. */
-#define STEAMFIDDLE_CONVERT_STACK 98304 /* measured: 94,056 at most */
+#define STEAMFIDDLE_CONVERT_STACK 98304 /* measured: 60,392 at most */
 #define STEAMFIDDLE_LOAD_STACK 1024     /* measured: 180 */
-#define STEAMFIDDLE_REPLAY_STACK 2048   /* measured: 1,428 */
+#define STEAMFIDDLE_REPLAY_STACK 2048   /* measured: 1,380 */
 
 /* ---- Refusals: of files 1 to 13, of plans and events 20 to 25 */
 enum steamfiddle_refusal {

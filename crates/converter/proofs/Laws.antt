@@ -23,11 +23,11 @@ use Rattle.document.proofs.Entries.{entries_back}
 use Rattle.document.proofs.Few.{few}
 use Rattle.lists.specs.Lists.{gathered}
 use Rattle.tables.specs.declared.rows.Told.{Told}
-use Rattle.tables.specs.TablesCode.{names_at, told_unless, tabled}
+use Rattle.tables.specs.declared.Telling.{Telling}
+use Rattle.tables.specs.TablesCode.{names_at, tabled}
 use Rattle.tables.proofs.Entries.{faultless_parts}
 use Rattle.tables.proofs.Laws.{reads_well}
 use Rattle.tables.proofs.Wanted.{first_of, Reads}
-use Rattle.tables.specs.RowsCode.{told}
 use Rattle.converter.specs.Converter.{Composes, Judged, Meets, Refuses, Converts}
 use Rattle.converter.specs.PlanCode.{written, Wrote, WroteOr, late_fault, sheet_words, Plain}
 use Rattle.converter.proofs.Lines.{statement_of, faults_of, compile_composes}
@@ -116,16 +116,6 @@ module _ (f : List ℕ) where
           omega (arith, ap length read.2.words, m)
 
 -- ---- by the tables
--- what is answered, if it is r
-abbrev refusal_in : Refusal → Result Told Refusal → Refusal
-refusal_in a r = elim r [ Ok t ↦ a | Err b ↦ b ]
-
-abbrev told_in : Told → Result Told Refusal → Told
-told_in t r = elim r [ Ok u ↦ u | Err b ↦ t ]
-
-abbrev is_ok : Result Told Refusal → Type 0
-is_ok r = elim r [ Ok t ↦ Unit {0} | Err a ↦ ⊥ ]
-
 module _ (f d : List ℕ) (es : List Entry) (p : Plain f es) where
   abbrev x : Node
   x = p.root
@@ -133,31 +123,37 @@ module _ (f d : List ℕ) (es : List Entry) (p : Plain f es) where
   abbrev ks : List Known
   ks = known_elements x
 
-  reads_all : Reads f ks (told f es) (tabled f es)
-  reads_all = subst (λ (l : List Entry). Reads f ks (told f l) (tabled f l)) (sym p.entries) (reads_well f x p.shaped p.faultless)
+  reads_all : Reads f ks (tabled f es)
+  reads_all = subst (λ (l : List Entry). Reads f ks (tabled f l)) (sym p.entries) (reads_well f x p.shaped p.faultless)
 
-  refused_by : (a : Refusal) (ts : List Fault) → table_faults ks ≡ ts → Err a ≡ told_unless (first_of ts) (told f es) → RefusedBy f d a
-  refused_by a [] e q = absurd (subst is_ok (sym q) tt)
+  refused_by : (a : Refusal) (ts : List Fault) → table_faults ks ≡ ts → first_of ts ≡ Some a → RefusedBy f d a
+  refused_by a [] e q = cc
   refused_by a (b ∷ l) e q =
-      subst (RefusedBy f d) (sym (ap (refusal_in a) q))
+      let o : refused_at b.number b.place ≡ a = cc in
+      subst (RefusedBy f d) o
       (Converts.refuses (refused_at b.number b.place) (refuse_early f (length d) x p.short p.shaped b l (rw (p.faultless, e))))
 
-  pub tables_refused : (a : Refusal) → Err a ≡ tabled f es → RefusedBy f d a
-  tables_refused a q = refused_by a (table_faults ks) refl (q ∙ reads_all.answer)
+  pub tables_refused : (t : Telling) → t ≡ tabled f es → (a : Refusal) → t.fault ≡ Some a → RefusedBy f d a
+  tables_refused t q a z =
+      refused_by a (table_faults ks) refl (sym reads_all.fault ∙ (sym (ap (λ (y : Telling). y.fault) q) ∙ z))
 
-  clear_by : (t : Told) (ts : List Fault) → Ok t ≡ told_unless (first_of ts) (told f es) → (t ≡ told f es) × (ts ≡ [])
-  clear_by t [] q = (ap (told_in t) q, refl)
-  clear_by t (b ∷ l) q = absurd (subst is_ok q tt)
+  clear_by : (ts : List Fault) → first_of ts ≡ None → ts ≡ []
+  clear_by [] q = refl
+  clear_by (b ∷ l) q = cc
 
-  module _ (t : Told) (q : Ok t ≡ tabled f es) where
-    clear : (t ≡ told f es) × (table_faults ks ≡ [])
-    clear = clear_by t (table_faults ks) (q ∙ reads_all.answer)
+  module _ (t : Told) (q : t ≡ (tabled f es).told) (h : (tabled f es).fault ≡ None) where
+    -- what was told, with no fault
+    abbrev telling : Telling
+    telling = record { fault = None; told = t }
 
-    reads : Reads f ks t (tabled f es)
-    reads = subst (λ (u : Told). Reads f ks u (tabled f es)) (sym clear.0) reads_all
+    tabled_is : tabled f es ≡ telling
+    tabled_is = rw (q, ← h) refl
+
+    reads : Reads f ks telling
+    reads = subst (Reads f ks) tabled_is reads_all
 
     pub sheet_room : length (sheet_words f t es) ≤ 1590
-    sheet_room = rw p.entries (sheet.sheet_fits f x p.short p.shaped p.faultless t _ reads)
+    sheet_room = rw p.entries (sheet.sheet_fits f x p.short p.shaped p.faultless telling reads)
 
     -- ---- by the expressions
     module _ (b : List ℕ) (r : Result ℕ Refusal) (e : List ℕ)
@@ -175,7 +171,7 @@ module _ (f d : List ℕ) (es : List Entry) (p : Plain f es) where
       ss = map (statement_of codes) lines
 
       tables_clear : table_faults ks ≡ []
-      tables_clear = clear.1
+      tables_clear = clear_by (table_faults ks) (sym reads.fault)
 
       -- all faults are those of the expressions
       judged : (cs : List Fault) → late ≡ cs → Judged x cs ss
@@ -185,7 +181,7 @@ module _ (f d : List ℕ) (es : List Entry) (p : Plain f es) where
 
       late_first : late_fault f (names_at f t.names) es ≡ first_of late
       late_first =
-          ap (late_fault f (names_at f t.names)) p.entries ∙ sheet.late_are f x p.short p.shaped p.faultless t _ reads
+          ap (late_fault f (names_at f t.names)) p.entries ∙ sheet.late_are f x p.short p.shaped p.faultless telling reads
 
       late_by : (q : Refusal) (cs : List Fault) → late ≡ cs → first_of cs ≡ Some q → RefusedBy f d q
       late_by q [] g z = cc
@@ -215,7 +211,7 @@ module _ (f d : List ℕ) (es : List Entry) (p : Plain f es) where
           short = p.short;
           spells = p.shaped;
           faultless = judged [] (late_clear late refl (sym late_first ∙ (c.wrote n z).0));
-          words = ap (sheet_words f t) p.entries ∙ sheet.sheet_is f x p.short p.shaped p.faultless t _ reads;
+          words = ap (sheet_words f t) p.entries ∙ sheet.sheet_is f x p.short p.shaped p.faultless telling reads;
         }
 
         pub late_short : length d < n → Converts f d (Err (refused_at 13 n)) d

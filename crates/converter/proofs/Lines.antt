@@ -31,8 +31,6 @@ use Rattle.tables.specs.RowsCode as rows
 use Rattle.tables.specs.RowsCode.{front, counted, is_channel, mask_of, is_inner}
 use Rattle.tables.proofs.Readings.{statement_ruled, number_is, trigger_is, filter_is}
 use Rattle.tables.proofs.Wanted.{Fit, Formed}
-use Rattle.file_rules.specs.RefusalCode.{refused_at}
-use Rattle.file_rules.specs.declared.Refusal.{Refusal}
 use Rattle.tables.proofs.Nested.{Nested, Named, each_name, each_pair, all_kept, all_mapped}
 use Rattle.tables.proofs.Fronts.{mask_is, text_is}
 use Rattle.converter.specs.Converter.{fault_of, Composes}

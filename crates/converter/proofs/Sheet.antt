@@ -25,9 +25,7 @@ use Rattle.file_rules.specs.Document.{known_elements, element_faults}
 use Rattle.file_rules.specs.Tables.{kept, is_in, within, channels_of, names_of, expression_of}
 use Rattle.document.specs.EntriesCode.{entry_of}
 use Rattle.document.proofs.Stood.{All}
-use Rattle.tables.specs.declared.rows.Told.{Told}
-use Rattle.std.specs.Prelude.{Result}
-use Rattle.file_rules.specs.declared.Refusal.{Refusal}
+use Rattle.tables.specs.declared.Telling.{Telling}
 use Rattle.tables.specs.RowsCode.{counted}
 use Rattle.tables.specs.TablesCode.{names_at}
 use Rattle.tables.proofs.Wanted.{Fit, Formed, Reads}
@@ -66,8 +64,8 @@ all_of : (p : Known → Type 0) → ((k : Known) → p k) → (ks : List Known) 
 all_of p h [] = tt
 all_of p h (k ∷ ks) = (h k, all_of p h ks)
 
-module _ (f : List ℕ) (x : Node) (short : length f ≤ 32768) (w : WellShaped f x) (e : element_faults x ≡ []) (t : Told)
-    (a : Result Told Refusal) (r : Reads f (known_elements x) t a) where
+module _ (f : List ℕ) (x : Node) (short : length f ≤ 32768) (w : WellShaped f x) (e : element_faults x ≡ []) (t : Telling)
+    (r : Reads f (known_elements x) t) where
   abbrev ks : List Known
   ks = known_elements x
 
@@ -96,7 +94,7 @@ module _ (f : List ℕ) (x : Node) (short : length f ≤ 32768) (w : WellShaped 
       (all_zipped (λ k. Fit f k × All (Fit f) (within k)) Formed ks
       (all_zipped (Fit f) (λ k. All (Fit f) (within k)) ks fits (all_within (Fit f) x fits)) (all_formed x e))
 
-  pub late_are : late_fault f (names_at f t.names) (map entry_of ks) ≡ first_of (gathered (faults_of names) lines)
+  pub late_are : late_fault f (names_at f t.told.names) (map entry_of ks) ≡ first_of (gathered (faults_of names) lines)
   late_are = ap (λ ns. late_fault f ns (map entry_of ks)) r.names ∙ late_is f short names ks nested named whole
 
   triggers_count : counted (kind_of (bytes "TRIGGERS")) (map entry_of ks) ≡ length (map trigger_of (kept (is_in "TRIGGERS") ks))
@@ -111,7 +109,7 @@ module _ (f : List ℕ) (x : Node) (short : length f ≤ 32768) (w : WellShaped 
       counted_are _ (bytes "STATEMENTS") ks kinds_back.2 named ∙ ap length (kept_same (is_in "STATEMENTS") (is "STATEMENT") one_line ks)
       ∙ sym (length-map lines (statement_of names))
 
-  pub sheet_is : sheet_words f t (map entry_of ks) ≡ words_of (plan_for statements ks)
+  pub sheet_is : sheet_words f t.told (map entry_of ks) ≡ words_of (plan_for statements ks)
   unfolding sheet_words words_of plan_for
   sheet_is =
       rw (
@@ -148,7 +146,7 @@ module _ (f : List ℕ) (x : Node) (short : length f ≤ 32768) (w : WellShaped 
       (all_mapped (λ k. (is "STATEMENT" k ≡ true) × Formed k) (λ k. length (statement_words (statement_of names k)) ≤ 73)
       (λ k y. line_most k y.0 y.1) lines (all_kept Formed (is "STATEMENT") ks (all_formed x e))))
 
-  pub sheet_fits : length (sheet_words f t (map entry_of ks)) ≤ 1590
+  pub sheet_fits : length (sheet_words f t.told (map entry_of ks)) ≤ 1590
   unfolding words_of plan_for
   sheet_fits =
       let ts = map trigger_of (kept (is_in "TRIGGERS") ks) in

@@ -5,14 +5,12 @@ use mathlib.Core.List.{List, [], ◌∷◌, ◌++◌, append-nil}
 use mathlib.Core.Bool.{Bool, true, false}
 use mir.Val.{bool_byte}
 use native.Mathlib.Omega.{arith}
-use lib.ListN.{length, set, take}
-use Rattle.lists.proofs.Fills.{cut_is}
+use lib.ListN.{length, set}
 use Rattle.lists.proofs.Parts.{lent}
 use Rattle.records.specs.Records.{flag}
-use Rattle.std.specs.Prelude.{Option, Some, None, Result, Ok, Err}
+use Rattle.std.specs.Prelude.{Option, Result, Ok, Err}
 use Rattle.std.specs.Option.{option_or}
 use Rattle.grammar.specs.declared.Unfit.{Unfit}
-use Rattle.grammar.specs.declared.Unfit.TheVariants.{Broken, Unknown}
 use Rattle.grammar.specs.declared.Words.{Words}
 use Rattle.grammar.specs.GrammarCode.{unfit_number, code_in}
 use Rattle.element.specs.ElementCode.{is_kind}

@@ -82,10 +82,12 @@ pub record WroteOr (fault : Option Refusal) (ws d : List ℕ) (r : Result ℕ Re
   pub long : length e ≡ length d
 
 -- ---- the plan
+-- how many triggers, filters and statements
+abbrev pub counts : List Entry → List ℕ
+counts es = counted (kind_of (bytes "TRIGGERS")) es ∷ counted (kind_of (bytes "FILTERS")) es ∷ counted (kind_of (bytes "STATEMENTS")) es ∷ []
+
 abbrev pub head_words : Told → List Entry → List ℕ
-head_words t es =
-    newest ∷ t.head.channels ∷ flag t.head.all ∷ counted (kind_of (bytes "TRIGGERS")) es ∷ counted (kind_of (bytes "FILTERS")) es
-    ∷ counted (kind_of (bytes "STATEMENTS")) es ∷ []
+head_words t es = newest ∷ t.head.channels ∷ flag t.head.all ∷ counts es
 
 unfoldable pub sheet_words : List ℕ → Told → List Entry → List ℕ
 sheet_words f t es =

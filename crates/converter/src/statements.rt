@@ -2,7 +2,8 @@
 //
 // Promises: `write_statements` writes the words that specs/PlanCode.antt gives, or answers the place of the first expression that is refused and its
 // number, 11 or 12.
-ghost use Rattle.std.specs.Prelude.{◌≡◌, ◌≤◌, length};
+ghost use Rattle.std.specs.Prelude.{◌≡◌, ◌≤◌, length, true};
+ghost use Rattle.element.specs.ElementCode.{is_kind};
 ghost use Rattle.shape.specs.Text.{trimmed};
 ghost use Rattle.grammar.specs.GrammarCode.{compiled};
 ghost use Rattle.grammar.specs.TokensCode.{names_in};
@@ -28,13 +29,20 @@ fn compile_text(text: &[u8], names: Spans) -> Result<Words, Unfit>
     expression::compile(&text[a..e], names)
 }
 
-// The code of a text in pieces, which are joined in a buffer.
-fn compile_joined(names: Spans, place: usize) -> Result<Words, Unfit>
-    ensures { result ≡ compiled_at names.entry.file.now (names_in names.entry.file.now names.entry.starts.now names.entry.ends.now) place }
+// The code of a text in pieces, which are joined in a buffer. Not inlined, and lent the file itself and no `Spans`: only so the copy into the buffer is
+// known to be between two things, and no call of memmove, which the archive for C did not need.
+#[inline(never)]
+fn compile_joined(
+    file: &[u8],
+    starts: &[usize],
+    ends: &[usize],
+    place: usize,
+) -> Result<Words, Unfit>
+    ensures { result ≡ compiled_at file.now (names_in file.now starts.now ends.now) place }
 {
     let mut text = [0; 32768];
-    let n = texts::gather_text(names.file, place, &mut text);
-    compile_text(&text[..n], names)
+    let n = texts::gather_text(file, place, &mut text);
+    compile_text(&text[..n], Spans { file, starts, ends })
 }
 
 // The code of the text of the element at a place. Nearly every text is one piece, and is read where it stands.
@@ -46,7 +54,7 @@ fn compile_at(names: Spans, place: usize) -> Result<Words, Unfit>
             let file = names.file;
             compile_text(&file[from..to], names)
         }
-        None => compile_joined(names, place),
+        None => compile_joined(names.file, names.starts, names.ends, place),
     }
 }
 
@@ -86,14 +94,13 @@ fn write_line(post: u32, entries: Entries<'_>, code: &[u32], out: &mut [u32]) ->
     end
 }
 
-// An element, if it is a STATEMENT; its elements stand behind it. 11 if its expression breaks its rules, 12 if a word names no trigger.
-fn write_statement(names: Spans, element: Entry<'_>, out: &mut [u32]) -> Result<usize, Refusal>
-    requires { (length (line_row names.file.now (names_in names.file.now names.starts.now names.ends.now) (shown element) (behind element)) ≤ length out.old) × (length out.old ≤ 1590) }
+// A STATEMENT; its elements stand behind it. 11 if its expression breaks its rules, 12 if a word names no trigger.
+// Not inlined: its locals hold compiled code and are cleared where it begins, which at every element would be most of the work.
+#[inline(never)]
+fn write_found(names: Spans, element: Entry<'_>, out: &mut [u32]) -> Result<usize, Refusal>
+    requires { (is_kind (shown element).kind "STATEMENT" ≡ true) × (length (line_row names.file.now (names_in names.file.now names.starts.now names.ends.now) (shown element) (behind element)) ≤ length out.old) × (length out.old ≤ 1590) }
     ensures { WroteOr (line_fault names.entry.file.now (names_in names.entry.file.now names.entry.starts.now names.entry.ends.now) (shown element.entry) (behind element.entry)) (line_row names.entry.file.now (names_in names.entry.file.now names.entry.starts.now names.entry.ends.now) (shown element.entry) (behind element.entry)) out.old result out.new }
 {
-    if !kinds::is_same(element.kind(), kinds::STATEMENT) {
-        return Ok(0);
-    }
     let entries = element.rest();
     let place = rows::text_from(entries);
     match compile_at(names, place) {
@@ -106,6 +113,17 @@ fn write_statement(names: Spans, element: Entry<'_>, out: &mut [u32]) -> Result<
             place,
         }),
     }
+}
+
+// An element, if it is a STATEMENT.
+fn write_statement(names: Spans, element: Entry<'_>, out: &mut [u32]) -> Result<usize, Refusal>
+    requires { (length (line_row names.file.now (names_in names.file.now names.starts.now names.ends.now) (shown element) (behind element)) ≤ length out.old) × (length out.old ≤ 1590) }
+    ensures { WroteOr (line_fault names.entry.file.now (names_in names.entry.file.now names.entry.starts.now names.entry.ends.now) (shown element.entry) (behind element.entry)) (line_row names.entry.file.now (names_in names.entry.file.now names.entry.starts.now names.entry.ends.now) (shown element.entry) (behind element.entry)) out.old result out.new }
+{
+    if !kinds::is_same(element.kind(), kinds::STATEMENT) {
+        return Ok(0);
+    }
+    write_found(names, element, out)
 }
 
 // The statements, or the first whose expression is refused.

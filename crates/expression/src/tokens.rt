@@ -27,13 +27,21 @@ pub(crate) const CLOSE: u32 = 36;
 
 pub(crate) const UNKNOWN: u32 = 37;
 
-// Which of the names a word is first.
+// Which of the names between starts and ends a word is first.
+fn first_between(word: &[u8], file: &[u8], starts: &[usize], ends: &[usize]) -> Option<usize>
+    ensures { result ≡ position_from (λ p. same word.now (drop p.0 (take p.1 file.now))) 0 (zip starts.now ends.now) }
+{
+    let mut spans = starts.iter().zip(ends);
+    spans.position(|(start, end)| texts::same_text(word, grammar::cut(file, *start, *end)))
+}
+
+// Which of the names a word is first. Starts and ends are cut to one length, so that the loop, in which large files spend much of their time, has one
+// end to test and no three.
 fn first_named(word: &[u8], names: Spans) -> Option<usize>
     ensures { result ≡ position_from (λ p. same word.now (drop p.0 (take p.1 names.entry.file.now))) 0 (take 32 (zip names.entry.starts.now names.entry.ends.now)) }
 {
-    let file = names.file;
-    let mut spans = names.starts.iter().zip(names.ends).take(TRIGGERS);
-    spans.position(|(start, end)| texts::same_text(word, grammar::cut(file, *start, *end)))
+    let n = TRIGGERS.min(names.starts.len()).min(names.ends.len());
+    first_between(word, names.file, &names.starts[..n], &names.ends[..n])
 }
 
 // The number of the first trigger that a word names, or 37.

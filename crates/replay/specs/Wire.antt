@@ -47,7 +47,7 @@ event_at s = cond (eqb (get_or s 0 0) 0) (tick (frame_at s).time) (frame (frame_
 
 -- 0 answer (0 Recorded, 1 Idle, 2 Stopped, 3 Halted, 4 Ticked, or the refusal number 20 to 25)
 abbrev pub answer_byte : Answer → ℕ
-answer_byte a = elim a [ Recorded ↦ 0 | Idle ↦ 1 | Stopped ↦ 2 | answers.Halted ↦ 3 | Ticked ↦ 4 | Refused r ↦ refusal_number r ]
+answer_byte a = elim a [ Recorded ↦ 0 | Idle ↦ 1 | Stopped ↦ 2 | answers.Halted ↦ 3 | Ticked ↦ 4 | Refused r ↦ refusal_number r % 256 ]
 
 -- 1 logging state (0 Off, 1 On, 2 ending, 3 ending completely, 4 Halted)
 abbrev pub logging_byte : Logging → ℕ

@@ -1,7 +1,8 @@
 // The bytes of an answer.
 //
 // Promises: `answer_bytes` gives the 32 bytes of an answer (specs/Wire.antt).
-ghost use Rattle.std.specs.Prelude.{◌≡◌, List, Bool, ℕ, Option};
+ghost use Rattle.std.specs.Prelude.{◌≡◌, List, Bool, ℕ};
+ghost use Rattle.event_rules.specs.declared.Firing.{Firing};
 ghost use Rattle.replay.specs.Wire.{answer_byte, logging_byte, end_time, answer_bytes};
 
 use event_rules::{Answer, Counts, Logging};
@@ -16,7 +17,7 @@ fn answer_byte(a: Answer) -> u8
         Answer::Stopped => 2,
         Answer::Halted => 3,
         Answer::Ticked => 4,
-        Answer::Refused(refusal) => refusal.number(),
+        Answer::Refused(refusal) => (refusal.number() % 256) as u8,
     }
 }
 
@@ -43,7 +44,7 @@ fn end_time(l: Logging) -> u64
 
 // An answer's bytes, numbers low byte first. Of the engine they tell the logging state alone: what else it holds may be anything.
 pub(crate) fn answer_bytes(answer: Answer, logging: Logging, counts: Counts) -> [u8; 32]
-    ensures { (fired : List (Option ℕ)) → (truth : List Bool) → (started : Bool) → (last : ℕ) → result ≡ answer_bytes (record { answer = answer; engine = record { logging = logging; fired = fired; truth = truth; started = started; last = last }; counts = counts }) }
+    ensures { (fired : List Firing) → (truth : List Bool) → (started : Bool) → (last : ℕ) → result ≡ answer_bytes (record { answer = answer; engine = record { logging = logging; fired = fired; truth = truth; started = started; last = last }; counts = counts }) }
 {
     let mut bytes = [0; 32];
     bytes[0] = answer_byte(answer);

@@ -6,12 +6,13 @@
 // May not touch: files, XML. It reads plan words only where the loader took them.
 #![tactic(auto)]
 
-ghost use Rattle.std.specs.Prelude.{◌≡◌, ◌≤◌, length, replicate, None};
+ghost use Rattle.std.specs.Prelude.{◌≡◌, ◌≤◌, length, replicate, map};
 ghost use Rattle.event_rules.specs.Calls.{fresh};
 ghost use Rattle.replay.specs.Wire.{event_at};
+ghost use Rattle.engine.specs.TriggersCode.{never};
 ghost use Rattle.engine.specs.EventCode.{engine_of, outcome_of};
 ghost use Rattle.replay.specs.Replay.{events_answered, Replays};
-ghost use Rattle.replay.specs.ReplayCode.{step_loaded};
+ghost use Rattle.replay.specs.ReplayCode.{step_loaded, forgotten};
 
 pub mod answers;
 pub mod events;
@@ -19,12 +20,12 @@ pub mod events;
 use engine::event;
 use engine::event::{Ran, Running};
 use engine::plan_words::PlanWords;
-use event_rules::{Answer, Counts, Event, Logging, Refusal};
+use event_rules::{Answer, Counts, Firing, Logging, Refusal};
 use loader::Layout;
 
-// A fresh engine, beside last firings of which there are none.
+// A fresh engine, beside the last firings of triggers that never fired.
 fn fresh_running() -> Running
-    ensures { engine_of result (replicate 32 None) ≡ fresh }
+    ensures { engine_of result (replicate 32 never) ≡ fresh }
 {
     Running {
         logging: Logging::Off,
@@ -34,16 +35,34 @@ fn fresh_running() -> Running
     }
 }
 
-// One event, for what the loader answered.
+// By its fields, and no struct of zeros: see `forget`.
+fn forget_one(firing: &mut Firing)
+    ensures { firing.new ≡ never }
+{
+    firing.ever = false;
+    firing.at = 0;
+}
+
+// No trigger has fired. Field by field and not inlined: else an array of zeros is a call of memset, and the archive for C needs no name from outside.
+#[inline(never)]
+fn forget(fired: &mut [Firing; 32])
+    ensures { fired.new ≡ map forgotten fired.old }
+{
+    for i in 0..32 {
+        forget_one(&mut fired[i]);
+    }
+}
+
+// One event, for what the loader answered. Its bytes are read where there is a plan.
 fn step_loaded(
     words: &[u32],
     loaded: Option<Layout>,
     s: Running,
     k: Counts,
-    e: Event,
-    fired: &mut [Option<u64>; 32],
+    event: &[u8; 32],
+    fired: &mut [Firing; 32],
 ) -> Ran
-    ensures { outcome_of result fired.new ≡ step_loaded words.now loaded (engine_of s fired.old) k e }
+    ensures { outcome_of result fired.new ≡ step_loaded words.now loaded (engine_of s fired.old) k (event_at event.now) }
 {
     let Some(lay) = loaded else {
         return Ran {
@@ -52,6 +71,7 @@ fn step_loaded(
             counts: k,
         };
     };
+    let e = events::read_event(event);
     event::run_event(PlanWords { words, lay }, s, k, e, fired)
 }
 
@@ -63,12 +83,13 @@ pub fn replay(words: &[u32], events: &[u8], counts: Counts, out: &mut [u8]) -> u
     let n = (events.len() / 32).min(out.len() / 32);
     let loaded = loader::load(words);
     let mut s = fresh_running();
-    let mut fired = [None; 32];
+    let mut fired = [Firing { ever: true, at: 1 }; 32];
+    forget(&mut fired);
     let mut k = counts;
     for i in 0..n {
         let at = 32 * i;
-        let e = events::read_event(events[at..].first_chunk().unwrap());
-        let r = step_loaded(words, loaded, s, k, e, &mut fired);
+        let event = events[at..].first_chunk().unwrap();
+        let r = step_loaded(words, loaded, s, k, event, &mut fired);
         s = r.state;
         k = r.counts;
         out[at..at + 32].copy_from_slice(&answers::answer_bytes(r.answer, s.logging, k));

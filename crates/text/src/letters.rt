@@ -4,11 +4,12 @@
 ghost use Rattle.std.specs.Prelude.{◌≡◌};
 ghost use Rattle.text.specs.Kinds.{is_blank, is_start, is_name, is_any};
 
+// One byte after the other: joined in one pattern, most bytes, which are above the blank, took three tests and not one.
 #[tactic(auto, unfolding(crate::specs::Kinds::is_blank))]
 pub fn is_blank(b: u8) -> bool
     ensures { result ≡ is_blank b }
 {
-    matches!(b, b' ' | b'\t' | b'\r' | b'\n')
+    b == b' ' || b == b'\t' || b == b'\r' || b == b'\n'
 }
 
 #[tactic(auto, unfolding(crate::specs::Kinds::is_start))]

@@ -8,13 +8,20 @@ ghost use Rattle.text.specs.SpansCode.{span_at, is_plain, Tests};
 
 use crate::letters;
 
-// The offset behind the bytes at i that are of the kind.
+// The offset behind the bytes at i that are of the kind. A loop by place: most runs are short, and what `take_while` and `count` over the rest cost at
+// each run's start was more than the runs.
 fn run_end<F: Fn(u8) -> bool>(s: &[u8], i: usize, is_kind: F) -> usize
     requires { F.IsAlwaysCallable is_kind }
     ensures { (p : ℕ → Bool) → Tests F.post is_kind p → result ≡ span_at p (drop i s.now) i }
 {
-    let rest = s.get(i..).unwrap_or(&[]);
-    i + rest.iter().take_while(|b| is_kind(**b)).count()
+    let mut j = i;
+    while j < s.len() {
+        if !is_kind(s[j]) {
+            return j;
+        }
+        j += 1;
+    }
+    j
 }
 
 // The offset behind the blanks at i.

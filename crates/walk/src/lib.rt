@@ -73,5 +73,11 @@ pub(crate) fn byte_at(file: &[u8], i: usize) -> u8
 pub(crate) fn ahead(file: &[u8], i: usize, n: usize) -> usize
     ensures { result ≡ ahead file.now i n }
 {
-    i.saturating_add(n).min(file.len())
+    if file.len() <= i {
+        file.len()
+    } else if n <= file.len() - i {
+        i + n
+    } else {
+        file.len()
+    }
 }

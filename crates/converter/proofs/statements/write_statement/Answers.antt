@@ -1,4 +1,4 @@
--- `converter::statements::write_statement` meets its contract: no STATEMENT, or one whose expression is compiled, or is refused.
+-- `converter::statements::write_statement` meets its contract: no STATEMENT, or one.
 use mathlib.Core.Path.{sym, ap, ◌∙◌}
 use native.Mathlib.Omega.{arith}
 use lib.ListN.{length}
@@ -7,21 +7,13 @@ use Rattle.schema.specs.SchemaCode.{names, name_in, attributes, position_of}
 use Rattle.grammar.specs.TokensCode.{names_in}
 use Rattle.document.specs.EntriesCode.{entries_in}
 use Rattle.tables.specs.RowsCode.{shown}
-use Rattle.converter.proofs.Turns.{no_line, line_is, line_good, line_refused}
+use Rattle.converter.proofs.Turns.{no_line}
 use Rattle.converter.proofs.statements.write_statement.Goals as goal
 
 pub returns-then-not-is_same : goal.returns-then-not-is_same
 unfolding names name_in bytes
 returns-then-not-is_same c = no_line c.args.names.file.now (names_in c.args.names.file.now c.args.names.starts.now c.args.names.ends.now) (shown c.args.element) _ c.kind.ensures (sym c.is_same.ensures ∙ c.if-not-is_same.true)
 
-pub write_line-requires : goal.write_line-requires
-unfolding names name_in bytes attributes position_of same
-write_line-requires c = (omega (arith, ap length (line_is c.args.names.file.now (names_in c.args.names.file.now c.args.names.starts.now c.args.names.ends.now) (shown c.args.element) _ c.kind.ensures (sym c.is_same.ensures ∙ c.if-not-is_same.false) (ap entries_in c.rest-entries.ensures) c.text_from-place.ensures c.compile_at.ensures c.in-Ok.is c.as_slice.ensures.0 c.value-post.ensures), c.requires.0), c.requires.1)
-
-pub returns-in-Ok : goal.returns-in-Ok
-unfolding names name_in bytes attributes position_of same
-returns-in-Ok c = line_good c.args.names.file.now (names_in c.args.names.file.now c.args.names.starts.now c.args.names.ends.now) (shown c.args.element) _ c.kind.ensures (sym c.is_same.ensures ∙ c.if-not-is_same.false) (ap entries_in c.rest-entries.ensures) c.text_from-place.ensures c.compile_at.ensures c.in-Ok.is c.as_slice.ensures.0 c.value-post.ensures c.write_line.ensures c.requires.0
-
-pub returns-in-Err : goal.returns-in-Err
+pub write_found-requires : goal.write_found-requires
 unfolding names name_in bytes
-returns-in-Err c = rw c.number.ensures (line_refused c.args.names.file.now (names_in c.args.names.file.now c.args.names.starts.now c.args.names.ends.now) (shown c.args.element) _ c.kind.ensures (sym c.is_same.ensures ∙ c.if-not-is_same.false) (ap entries_in c.rest-entries.ensures) c.text_from-place.ensures c.compile_at.ensures c.in-Err.is)
+write_found-requires c = (rw (← c.kind.ensures, sym c.is_same.ensures ∙ c.if-not-is_same.false), c.requires.0, c.requires.1)

@@ -4,7 +4,7 @@ use Rattle.grammar.specs.TokensCode.{names_in}
 use Rattle.document.specs.EntriesCode.{entries_in}
 use Rattle.converter.specs.PlanCode.{line_row}
 use Rattle.shape.proofs.Steps.{handed_on}
-use Rattle.converter.proofs.Writes.{behind_none, behind_within, behind_most, or_room, or_long}
+use Rattle.converter.proofs.Writes.{behind_none, behind_within, behind_most, or_room}
 use Rattle.converter.proofs.Rows.{rows_next}
 use Rattle.converter.proofs.Turns.{lined_refused, lined_more, lined_all}
 use Rattle.converter.proofs.statements.write_statements.Goals as goal
