@@ -84,7 +84,8 @@ pub record WroteOr (fault : Option Refusal) (ws d : List ℕ) (r : Result ℕ Re
 -- ---- the plan
 -- how many triggers, filters and statements
 abbrev pub counts : List Entry → List ℕ
-counts es = counted (kind_of (bytes "TRIGGERS")) es ∷ counted (kind_of (bytes "FILTERS")) es ∷ counted (kind_of (bytes "STATEMENTS")) es ∷ []
+counts es =
+    counted (kind_of (bytes "TRIGGERS")) es ∷ counted (kind_of (bytes "FILTERS")) es ∷ counted (kind_of (bytes "STATEMENTS")) es ∷ []
 
 abbrev pub head_words : Told → List Entry → List ℕ
 head_words t es = newest ∷ t.head.channels ∷ flag t.head.all ∷ counts es
