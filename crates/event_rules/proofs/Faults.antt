@@ -14,7 +14,7 @@ use Rattle.event_rules.specs.Types.{Event, Refusal, Logging, Engine, Counts, Ans
 use Rattle.event_rules.specs.Rules.{Config, Result, gives, faults, states, evaluated, acted, triggered, process}
 use Rattle.event_rules.specs.Calls.{refusal_number, event_refusal, answer_refusal, unless_refused, step, statement_of, config_of, Answers, by_plan, no_plan}
 use Rattle.event_rules.specs.History.{outcomes}
-use Rattle.event_rules.proofs.Outcomes.{refusal_range, not_refusal, process_cases, ProcessGives, given, fails, process_gives}
+use Rattle.event_rules.proofs.Outcomes.{refusal_range, not_refusal, process_cases, ProcessGives, given, fails, process_gives, each_outcome}
 use Rattle.lists.specs.Lists.{all}
 
 pub refusal_below_25 : (c : Config) (en : Engine) (k : Counts) (e : Event) (r : Refusal) → event_refusal c en k e ≡ Some r
@@ -80,14 +80,8 @@ module _ (p : Plan) (ok : in_range p ≡ true) (en : Engine) where
 pub history_never_25 : (p : Plan) → in_range p ≡ true
     → (en : Engine) (k : Counts) (es : List Event) (before : List Outcome) (o : Outcome) (behind : List Outcome)
     → outcomes (config_of p) en k es ≡ before ++ (o ∷ behind) → answer_refusal o.answer ≡ Some (25, 0) → ⊥
-unfolding outcomes
-history_never_25 p ok en k [] [] o behind h q = let z : ◌≡◌ {A = ℕ} 0 1 = cc in omega arith
-history_never_25 p ok en k [] (b ∷ before) o behind h q = let z : ◌≡◌ {A = ℕ} 0 1 = cc in omega arith
-history_never_25 p ok en k (e ∷ es) [] o behind h q =
-    let same : step (config_of p) en k e ≡ o = cc in
-    never_25 p ok en k e (ap (λ (x : Outcome). answer_refusal x.answer) same ∙ q)
-history_never_25 p ok en k (e ∷ es) (b ∷ before) o behind h q =
-    history_never_25 p ok (step (config_of p) en k e).engine (step (config_of p) en k e).counts es before o behind (cc) q
+history_never_25 p ok =
+    each_outcome (λ x. answer_refusal x.answer ≡ Some (25, 0) → ⊥) (config_of p) (never_25 p ok)
 
 -- and no event call answers 25
 pub call_never_25 : {ws : List ℕ} {en : Engine} {k : Counts} {e : Event} {o : Outcome} → Answers ws en k e o

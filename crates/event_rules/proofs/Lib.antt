@@ -5,3 +5,4 @@ pub mod Checks
 pub mod HistoryLaws
 pub mod Filters
 pub mod Numbers
+pub mod Named

@@ -1,8 +1,8 @@
 -- What one event can give: a refusal that changes nothing, or an answer that is counted.
 use Prim.Native.Nat.{◌≤◌}
 use native.Mathlib.Omega.{arith}
-use mathlib.Core.Path.{◌≡◌, refl}
-use mathlib.Core.List.{List}
+use mathlib.Core.Path.{◌≡◌, refl, subst}
+use mathlib.Core.List.{List, [], ◌∷◌, ◌++◌}
 use mathlib.Core.Bool.{Bool, true, false, not, cond}
 use Rattle.std.proofs.Common.{Option, None, Some}
 use lib.Dec.{leb}
@@ -10,6 +10,7 @@ use Rattle.event_rules.specs.Types.{Event, frame, tick, Refusal, NoChannel, BadT
 use Rattle.event_rules.specs.declared.Answer.TheVariants as answers
 use Rattle.event_rules.specs.Rules.{Config, time_of, answering, is_halted, ended_by, passes, states, evaluated, recorded_or_idle, Result, gives, faults, acted, triggered, answered, process}
 use Rattle.event_rules.specs.Calls.{no_counts, late, out_of_range, full, refusal_number, event_refusal, answer_refusal, refused, closed, unless_refused, step}
+use Rattle.event_rules.specs.History.{outcomes}
 
 -- the refusals of an event on a plan: 21 to 24
 abbrev Ranged : Option Refusal → Type 0
@@ -108,3 +109,14 @@ module _ (c : Config) (en : Engine) (e : Event) where
       go None (given w after) = accepts w after
       go None fails = refuses CodeFault
       go (Some x) g = refuses x
+
+-- what holds of each event's outcome holds of each in a history
+pub each_outcome : (P : Outcome → Type 0) (c : Config) → ((en : Engine) (k : Counts) (e : Event) → P (step c en k e))
+    → (en : Engine) (k : Counts) (es : List Event) (before : List Outcome) (o : Outcome) (behind : List Outcome)
+    → outcomes c en k es ≡ before ++ (o ∷ behind) → P o
+unfolding outcomes
+each_outcome P c holds en k [] [] o behind h = absurd (cc)
+each_outcome P c holds en k [] (b ∷ before) o behind h = absurd (cc)
+each_outcome P c holds en k (e ∷ es) [] o behind h = let same : step c en k e ≡ o = cc in subst P same (holds en k e)
+each_outcome P c holds en k (e ∷ es) (b ∷ before) o behind h =
+    each_outcome P c holds (step c en k e).engine (step c en k e).counts es before o behind (cc)

@@ -1,5 +1,5 @@
 -- An event call: its refusals, its counts, and what a plan lent to it gives ("Refusal numbers" 20 to 25 of paper 01).
-use Rattle.std.specs.Prelude.{ℕ, ◌+◌, ◌/◌, ◌%◌, ◌^◌, List, map, Bool, false, not, ◌&&◌, ◌||◌, cond, replicate, leb, ltb, eqb, Option, None, Some}
+use Rattle.std.specs.Prelude.{ℕ, ◌+◌, ◌/◌, ◌%◌, ◌^◌, List, map, Bool, false, not, ◌&&◌, ◌||◌, cond, replicate, leb, ltb, eqb, Option, None, Some, ◌≡◌}
 use Rattle.code.specs.Code.{value_on}
 use Rattle.records.specs.Records as plans
 use Rattle.records.specs.Records.{id_top, dlc_top}
@@ -38,6 +38,10 @@ refusal_at n =
     cond (eqb n 20) NoPlan
     (cond (eqb n 21) NoChannel
     (cond (eqb n 22) BadTime (cond (eqb n 23) OutOfRange (cond (eqb n 24) CountsFull (cond (eqb n 25) CodeFault (Other n))))))
+
+-- a refusal with a name: any but Other
+abbrev pub Named : Refusal → Type 0
+Named r = (n : ℕ) → r ≡ Other n → ⊥
 
 -- 21 to 24 in number order, for ticks only 22
 abbrev pub frame_refusal : ℕ → ℕ → Counts → Frame → Option Refusal

@@ -7,6 +7,7 @@ use Rattle.loader.proofs.Exact as loader
 use Rattle.converter.proofs.Once.{meets_once}
 use Rattle.read_back.proofs.Places.{meets_top}
 use Rattle.event_rules.specs.Calls.{fresh, no_counts}
+use Rattle.event_rules.proofs.Named.{answer_named}
 use Rattle.event_rules.proofs.HistoryLaws.{counts_history, sum_history, chain_there}
 use Rattle.replay.proofs.Replays.{replays_once}
 use Rattle.replay.proofs.Numbers.{byte_exactly}
@@ -25,6 +26,7 @@ demand_1 = record {
   events = about_events;
   host_record = λ ws en k after e o a h n g. record_kept ws en k e after o a h n g;
   c_answer = byte_exactly;
+  named = answer_named;
   numbers = numbers_in;
   one_replay = λ ws events k out x y a b. replays_once a b;
 }

@@ -30,6 +30,7 @@ use Rattle.event_rules.specs.History.{CallsInTurn}
 use Rattle.event_rules.proofs.Outcomes.{refusal_range, ProcessGives, given, fails, process_gives, not_refusal}
 use Rattle.event_rules.proofs.HistoryLaws.{answers_once}
 use Rattle.event_rules.proofs.Faults.{never_25}
+use Rattle.event_rules.proofs.Named.{call_named}
 use Rattle.logger_c.specs.Calls.{Loading}
 use Rattle.promises.specs.Promises.{Rejects, AboutFiles, AboutConverting, AboutEvents}
 
@@ -148,6 +149,7 @@ module _ (ws : List ℕ) (en : Engine) (k : Counts) (e : Event) where
           let q = rejected o n a r in
           ap (λ (x : Outcome). answer_refusal x.answer) q.2 ∙ ap (λ (m : ℕ). Some (m, 0)) (sym q.1),
     );
+    named = call_named a;
     stays = λ n r. let q = (rejected o n a r).2 in (ap (λ (x : Outcome). x.engine) q, ap (λ (x : Outcome). x.counts) q);
     only = λ o' b. answers_once a b;
   }

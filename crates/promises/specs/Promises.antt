@@ -21,9 +21,10 @@ use Rattle.event_rules.specs.declared.Event.{Event}
 use Rattle.event_rules.specs.declared.Refusal.{Refusal}
 use Rattle.event_rules.specs.declared.Engine.{Engine}
 use Rattle.event_rules.specs.declared.Counts.{Counts}
+use Rattle.event_rules.specs.declared.Answer.TheVariants.{Refused}
 use Rattle.event_rules.specs.declared.Outcome.{Outcome}
 use Rattle.event_rules.specs.Rules.{Config}
-use Rattle.event_rules.specs.Calls.{fresh, no_counts, refusal_number, event_refusal, answer_refusal, step, config_of, Answers}
+use Rattle.event_rules.specs.Calls.{fresh, no_counts, refusal_number, Named, event_refusal, answer_refusal, step, config_of, Answers}
 use Rattle.event_rules.specs.History.{outcomes, CallsInTurn, counted_all, counts_after, sum_of, accepted_frames}
 use Rattle.replay.specs.Wire.{answer_byte}
 use Rattle.replay.specs.Replay.{replayed, events_answered, Replays}
@@ -55,6 +56,8 @@ pub record AboutConverting (s d : List ℕ) (r : ℕ) (out : List ℕ) : Type 0 
 -- an event
 pub record AboutEvents (ws : List ℕ) (en : Engine) (k : Counts) (e : Event) (o : Outcome) : Type 0 where
   pub exactly : (n : ℕ) → (answer_refusal o.answer ≡ Some (n, 0)) ↔ Rejects ws en k e n
+  -- what refuses it has a name
+  pub named : (r : Refusal) → o.answer ≡ Refused r → Named r
   pub stays : (n : ℕ) → Rejects ws en k e n → (o.engine ≡ en) × (o.counts ≡ k)
   pub only : (o' : Outcome) → Answers ws en k e o' → o ≡ o'
 
@@ -72,6 +75,8 @@ pub record Demand1 : Type 0 where
   -- a replay's byte tells a refusal, and all bytes are settled
   pub c_answer : (c : Config) (en : Engine) (k : Counts) (e : Event) (n : ℕ) → 20 ≤ n
       → (answer_byte (step c en k e).answer ≡ n) ↔ (answer_refusal (step c en k e).answer ≡ Some (n, 0))
+  -- by any rules, what refuses an event has a name
+  pub named : (c : Config) (en : Engine) (k : Counts) (e : Event) (r : Refusal) → (step c en k e).answer ≡ Refused r → Named r
   -- on any history every refusal is one of 20 to 24: no call finds a fault in the code that it runs
   pub numbers : (ws : List ℕ) (en : Engine) (k : Counts) (es : List Event) (os : List Outcome) → CallsInTurn ws en k es os
       → Every (λ o. (n : ℕ) → answer_refusal o.answer ≡ Some (n, 0) → (20 ≤ n) × (n ≤ 24)) os
